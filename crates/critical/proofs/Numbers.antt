@@ -140,3 +140,16 @@ module _ (a d w t u : ℕ → ℕ) (C : ℕ) where
     pub strong : sum (ours w t C) n + sum (strays w t u C) n ≤ sum (ours w u C) n
     unfolding Level
     strong = level n refl
+
+-- ---- what equal sums say: where a rival's sum is no more than ours, it strays nowhere
+module _ (a d w t u : ℕ → ℕ) (n : ℕ) (j : Joints n a d w t) (k : InTime n a d w u) (C i : ℕ) (h : i < n) (working : 0 < w i) where
+  pub not-faster : sum (ours w u C) n ≤ sum (ours w t C) n → C ≤ t i → C ≤ u i
+  not-faster e s =
+      cases (u i) C
+      (λ l. absurd (omega (arith, strong a d w t u C n j k, term-≤-sum (strays w t u C) n i h, stray-slow w t u C i s, mul-pos {m = w i} {n = C - u i} working (omega arith))))
+      (λ g. g)
+
+-- two plans with the four properties, both in time, have the same paces
+pub same-pace : (a d w t u : ℕ → ℕ) (n : ℕ) → Joints n a d w t → InTime n a d w t → Joints n a d w u → InTime n a d w u → ((i : ℕ) → i < n → 0 < w i) → (i : ℕ) → i < n → t i ≤ u i
+same-pace a d w t u n j k j′ k′ p i h =
+    not-faster a d w t u n j k′ (t i) i h (p i h) (omega (arith, strong a d w u t (t i) n j′ k)) (le-refl (t i))
