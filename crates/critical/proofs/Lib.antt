@@ -1,3 +1,5 @@
 pub mod Numbers
 pub mod Scaled
 pub mod Least
+pub mod Lines
+pub mod Room

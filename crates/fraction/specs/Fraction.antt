@@ -13,16 +13,16 @@ pub record Fraction : Type 0 where
   pub proper : 0 < den
 
 -- f is at most g: the cross products are.
-abbrev pub _≼_ : Fraction → Fraction → Type 0
-f ≼ g = f .num * g .den ≤ g .num * f .den
+pub record _≼_ (f g : Fraction) : Type 0 where
+  pub cross : f .num * g .den ≤ g .num * f .den
 
 -- f is below g.
-abbrev pub _≺_ : Fraction → Fraction → Type 0
-f ≺ g = f .num * g .den < g .num * f .den
+pub record _≺_ (f g : Fraction) : Type 0 where
+  pub cross : f .num * g .den < g .num * f .den
 
 -- f and g are the same amount.
-abbrev pub _≈_ : Fraction → Fraction → Type 0
-f ≈ g = f .num * g .den ≡ g .num * f .den
+pub record _≈_ (f g : Fraction) : Type 0 where
+  pub cross : f .num * g .den ≡ g .num * f .den
 
 -- The whole number n as a fraction.
 unfoldable pub whole : ℕ → Fraction

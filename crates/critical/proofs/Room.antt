@@ -1,0 +1,157 @@
+-- When there is a plan: the pass at the fastest pace, and room.
+-- Assumes nothing.
+use Prim.Native.Nat.{ℕ, zero, suc, _+_, _≤_, _<_}
+use mathlib.Core.Path.{_≡_, refl, sym, ap, subst}
+use mathlib.Core.Logic.{_⊎_, inl, inr, ⊎-elim}
+use native.Mathlib.Omega.{arith}
+use native.Mathlib.Nat.{eq-or-lt-of-le, le-of-suc-le-suc, not-suc-le-zero, le-refl}
+use Rattle.fraction.specs.Fraction.{Fraction, _≼_, _≺_, _≈_, whole, plus, times, later}
+use Rattle.fraction.proofs.Order.{≼-refl, ≼-trans, ≈-refl, ≈-≼, ≈-sym, ≈-trans, ≺-≼, ≺-≼-absurd, split, plus-≼, plus-≈, times-≼, later-≼, later-left, later-right, ≼-later-left, ≼-later-right}
+use Rattle.critical.specs.Reports.{Reports, Paces, firstOf, Positive, start, finish, Plannable, FirstWithout}
+use Rattle.critical.proofs.Lines.{span, span-one, span-more, line, line-more}
+
+-- ---- starts and finishes
+-- a report starts no sooner than its arrival, and no sooner than the finish before it
+pub arrives : (ℓ : Reports) (T : Paces) (i : ℕ) → whole (ℓ .arrival i) ≼ start ℓ T i
+unfolding start
+arrives ℓ T zero = ≼-refl (whole (ℓ .arrival zero))
+arrives ℓ T (suc i) = ≼-later-left (whole (ℓ .arrival (suc i))) (finish ℓ T i)
+
+pub waits : (ℓ : Reports) (T : Paces) (i : ℕ) → finish ℓ T i ≼ start ℓ T (suc i)
+unfolding start
+waits ℓ T i = ≼-later-right (whole (ℓ .arrival (suc i))) (finish ℓ T i)
+
+-- the faster of two plans starts and finishes no later
+module _ (ℓ : Reports) {T U : Paces} {n : ℕ} (faster : (i : ℕ) → i < n → T i ≼ U i) where
+  pub start-≼ : (i : ℕ) → i ≤ n → start ℓ T i ≼ start ℓ U i
+  unfolding start
+  start-≼ zero h = ≼-refl (whole (ℓ .arrival zero))
+  start-≼ (suc i) h =
+      later-≼ (≼-refl (whole (ℓ .arrival (suc i)))) (plus-≼ (start-≼ i (omega arith)) (times-≼ (ℓ .operations i) (faster i h)))
+
+  pub finish-≼ : (i : ℕ) → i < n → finish ℓ T i ≼ finish ℓ U i
+  finish-≼ i h = plus-≼ (start-≼ i (omega arith)) (times-≼ (ℓ .operations i) (faster i h))
+
+-- the first n reports by themselves start and finish as on the whole list
+pub start-first : (ℓ : Reports) (T : Paces) (n i : ℕ) → start (firstOf n ℓ) T i ≡ start ℓ T i
+unfolding start
+start-first ℓ T n zero = refl
+start-first ℓ T n (suc i) =
+    ap (λ (s : Fraction). later (whole (ℓ .arrival (suc i))) (plus s (times (ℓ .operations i) (T i)))) (start-first ℓ T n i)
+
+pub finish-first : (ℓ : Reports) (T : Paces) (n i : ℕ) → finish (firstOf n ℓ) T i ≡ finish ℓ T i
+finish-first ℓ T n i = ap (λ (s : Fraction). plus s (times (ℓ .operations i) (T i))) (start-first ℓ T n i)
+
+-- ---- the pass at the fastest pace
+-- every report at one pace
+abbrev pub steady : Fraction → Paces
+steady f i = f
+
+-- the pass holds at report i: at the fastest pace throughout, it finishes in time
+abbrev pub Holds : Reports → Fraction → ℕ → Type 0
+Holds ℓ f i = finish ℓ (steady f) i ≼ whole (ℓ .deadline i)
+
+-- it holds at the first n reports
+abbrev pub HoldsTo : Reports → Fraction → ℕ → Type 0
+HoldsTo ℓ f n = (i : ℕ) → i < n → Holds ℓ f i
+
+-- one report more
+pub holds-more : (ℓ : Reports) (f : Fraction) (n : ℕ) → HoldsTo ℓ f n → Holds ℓ f n → HoldsTo ℓ f (suc n)
+holds-more ℓ f n k g i s = ⊎-elim (λ (e : i ≡ n). subst (Holds ℓ f) (sym e) g) (λ l. k i l) (eq-or-lt-of-le (le-of-suc-le-suc s))
+
+module _ (ℓ : Reports) (f : Fraction) where
+  -- any allowed plan finishes no sooner than the fastest
+  pub plan-holds : (n : ℕ) → Plannable (firstOf n ℓ) f → HoldsTo ℓ f n
+  plan-holds n p i h =
+      ≼-trans (finish-≼ ℓ (p .1 .no-faster) i h)
+      (subst (λ (x : Fraction). x ≼ whole (ℓ .deadline i)) (finish-first ℓ (p .0) n i) (p .1 .keeps .in-time i h))
+
+  module _ (pos : Positive f) where
+    -- where the pass holds, the fastest pace is an allowed plan
+    pub holds-plan : (n : ℕ) → HoldsTo ℓ f n → Plannable (firstOf n ℓ) f
+    holds-plan n k = (steady f, record {
+      keeps = record {
+        positive = λ i h. pos;
+        in-time = λ i h. subst (λ (x : Fraction). x ≼ whole (ℓ .deadline i)) (sym (finish-first ℓ (steady f) n i)) (k i h);
+      };
+      no-faster = λ i h. ≼-refl f;
+    })
+
+    -- the pass stops at the first report without a plan, and nowhere else
+    pub stops-first : (i : ℕ) → i < ℓ .count → HoldsTo ℓ f i → whole (ℓ .deadline i) ≺ finish ℓ (steady f) i → FirstWithout ℓ f i
+    stops-first i h k l = record {
+      on-list = h;
+      without = λ p. ≺-≼-absurd l (plan-holds (suc i) p i (le-refl (suc i)));
+      least = λ j s. holds-plan (suc j) (λ m e. k m (omega arith));
+    }
+
+    pub first-holds : (i : ℕ) → FirstWithout ℓ f i → HoldsTo ℓ f i
+    first-holds i w j s = plan-holds (suc j) (w .least j s) j (le-refl (suc j))
+
+    pub first-stops : (i : ℕ) → FirstWithout ℓ f i → whole (ℓ .deadline i) ≺ finish ℓ (steady f) i
+    first-stops i w =
+        split (whole (ℓ .deadline i)) (finish ℓ (steady f) i) (λ l. l)
+        (λ g. absurd (w .without (holds-plan (suc i) (holds-more ℓ f i (first-holds i w) g))))
+
+    -- the pass decides: it holds at the first n reports, or stops at one of them
+    pub runs : (n : ℕ) → n ≤ ℓ .count → HoldsTo ℓ f n ⊎ ((i : ℕ) × FirstWithout ℓ f i)
+    runs zero h = inl (λ i k. absurd (not-suc-le-zero k))
+    runs (suc n) h =
+        ⊎-elim
+        (λ (k : HoldsTo ℓ f n). split (whole (ℓ .deadline n)) (finish ℓ (steady f) n) (λ l. inr (n, stops-first n h k l)) (λ g. inl (holds-more ℓ f n k g)))
+        inr (runs n (omega arith))
+
+-- ---- room
+-- a list is roomy: from any report's arrival, at the fastest pace, the reports to any later one are done by its deadline
+abbrev pub Roomy : Reports → Fraction → Type 0
+Roomy ℓ f = (i j : ℕ) → i ≤ j → j < ℓ .count → line (ℓ .arrival i) f (span (ℓ .operations) i j) ≼ whole (ℓ .deadline j)
+
+module _ (ℓ : Reports) (f : Fraction) where
+  abbrev w : ℕ → ℕ
+  w = ℓ .operations
+
+  abbrev run : ℕ → ℕ → Fraction
+  run i j = line (ℓ .arrival i) f (span w i j)
+
+  -- the line from an arrival at the report itself, and one report further
+  run-one : (i : ℕ) → run i i ≈ plus (whole (ℓ .arrival i)) (times (w i) f)
+  unfolding line
+  run-one i = rw span-one (≈-refl (plus (whole (ℓ .arrival i)) (times (w i) f)))
+
+  run-more : (i j : ℕ) → i ≤ j → run i (suc j) ≈ plus (run i j) (times (w (suc j)) f)
+  run-more i j h = rw (span-more w i j h) (≈-sym (line-more (ℓ .arrival i) f (span w i j) (w (suc j))))
+
+  -- a run that is no later than a report's start is, with the report, no later than its finish
+  adds : (x : Fraction) (j : ℕ) → x ≼ start ℓ (steady f) j → plus x (times (w j) f) ≼ finish ℓ (steady f) j
+  adds x j h = plus-≼ h (≼-refl (times (w j) f))
+
+  -- the fastest plan is no sooner than the line from any arrival
+  no-sooner-at : (i : ℕ) → run i i ≼ finish ℓ (steady f) i
+  no-sooner-at i = ≼-trans (≈-≼ (run-one i)) (adds (whole (ℓ .arrival i)) i (arrives ℓ (steady f) i))
+
+  pub no-sooner : (i j : ℕ) → i ≤ j → run i j ≼ finish ℓ (steady f) j
+  no-sooner i zero h = let e : i ≡ zero = omega arith in rw e (no-sooner-at zero)
+  no-sooner i (suc j) h =
+      ⊎-elim (λ (e : i ≡ suc j). rw e (no-sooner-at (suc j)))
+      (λ l.
+        let k : i ≤ j = le-of-suc-le-suc l in
+        ≼-trans (≈-≼ (run-more i j k)) (adds (run i j) (suc j) (≼-trans (no-sooner i j k) (waits ℓ (steady f) j))))
+      (eq-or-lt-of-le h)
+
+  -- and it is on one of those lines: that from the last report that waited for nothing
+  pub on-a-run : (j : ℕ) → (i : ℕ) × (i ≤ j) × (finish ℓ (steady f) j ≈ run i j)
+  unfolding start
+  on-a-run zero = (zero, le-refl zero, ≈-sym (run-one zero))
+  on-a-run (suc j) =
+      split (whole (ℓ .arrival (suc j))) (finish ℓ (steady f) j)
+      (λ l.
+        let r = on-a-run j in
+        (r .0, omega (arith, r .1), ≈-trans (plus-≈ (≈-trans (later-right (≺-≼ l)) (r .2)) (≈-refl (times (w (suc j)) f))) (≈-sym (run-more (r .0) j (r .1)))))
+      (λ g. (suc j, le-refl (suc j), ≈-trans (plus-≈ (later-left g) (≈-refl (times (w (suc j)) f))) (≈-sym (run-one (suc j)))))
+
+  -- the pass holds throughout exactly when the list is roomy
+  pub holds-roomy : HoldsTo ℓ f (ℓ .count) → Roomy ℓ f
+  holds-roomy k i j h l = ≼-trans (no-sooner i j h) (k j l)
+
+  pub roomy-holds : Roomy ℓ f → HoldsTo ℓ f (ℓ .count)
+  roomy-holds r j l = let o = on-a-run j in ≼-trans (≈-≼ (o .2)) (r (o .0) j (o .1) l)
