@@ -3,3 +3,4 @@ pub mod Scaled
 pub mod Least
 pub mod Lines
 pub mod Room
+pub mod Search

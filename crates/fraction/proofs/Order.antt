@@ -4,8 +4,8 @@
 use Prim.Native.Nat.{ℕ, _+_, _*_, _≤_, _<_, max}
 use mathlib.Core.Path.{_≡_, refl, sym, ap}
 use native.Mathlib.Omega.{arith}
-use native.Mathlib.Nat.{mul-pos, mul-le-mul-left, le-max-left, le-max-right}
-use Rattle.fraction.specs.Fraction.{Fraction, _≼_, _≺_, _≈_, whole, plus, times, later}
+use native.Mathlib.Nat.{mul-pos, mul-le-mul-left, mul-le-mul-right, le-max-left, le-max-right}
+use Rattle.fraction.specs.Fraction.{Fraction, _≼_, _≺_, _≈_, whole, plus, times, later, over}
 use Rattle.fraction.proofs.Scale.{cases, max-high, max-low, At, at-plus, at-le, at-lt, le-at, lt-at, at-later}
 
 -- ---- one and two fractions
@@ -157,3 +157,15 @@ unfolding plus
 pub plus-times : (f g : Fraction) (m n : ℕ) → plus (plus f (times m g)) (times n g) ≈ plus f (times (m + n) g)
 unfolding plus times
 plus-times f g m n = omega arith
+
+-- a larger number over the same one
+pub over-≼ : {m n : ℕ} (d : ℕ) → m ≤ n → over m d ≼ over n d
+unfolding over
+over-≼ d h = record { cross = mul-le-mul-right (max 1 d) h }
+
+-- a fraction above a positive one is positive
+pub positive-up : {f g : Fraction} → f ≼ g → 0 < f .num → 0 < g .num
+positive-up {f} {g} h p = cases (g .num) 1 (λ l. absurd (omega (arith, mul-pos p (g .proper), ap (λ (x : ℕ). x * f .den) (nil l)))) (λ m. m)
+  where
+    nil : g .num < 1 → g .num ≡ 0
+    nil l = omega arith
