@@ -4,3 +4,5 @@ pub mod Least
 pub mod Lines
 pub mod Room
 pub mod Search
+pub mod Cover
+pub mod Chain

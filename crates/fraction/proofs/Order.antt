@@ -2,9 +2,9 @@
 -- scale, the product of the lower numbers.
 -- Assumes nothing.
 use Prim.Native.Nat.{ℕ, _+_, _*_, _≤_, _<_, max}
-use mathlib.Core.Path.{_≡_, refl, sym, ap}
+use mathlib.Core.Path.{_≡_, sym, ap, subst}
 use native.Mathlib.Omega.{arith}
-use native.Mathlib.Nat.{mul-pos, mul-le-mul-left, mul-le-mul-right, le-max-left, le-max-right}
+use native.Mathlib.Nat.{mul-pos, mul-le-mul-left, mul-le-mul-right, le-max-left, le-max-right, le-of-lt}
 use Rattle.fraction.specs.Fraction.{Fraction, _≼_, _≺_, _≈_, whole, plus, times, later, over}
 use Rattle.fraction.proofs.Scale.{cases, max-high, max-low, At, at-plus, at-le, at-lt, le-at, lt-at, at-later}
 
@@ -169,3 +169,9 @@ positive-up {f} {g} h p = cases (g .num) 1 (λ l. absurd (omega (arith, mul-pos 
   where
     nil : g .num < 1 → g .num ≡ 0
     nil l = omega arith
+
+-- the later of two whole times
+pub later-whole : (m n : ℕ) → later (whole m) (whole n) ≈ whole (max m n)
+later-whole m n =
+    cases m n (λ h. subst (λ (x : ℕ). later (whole m) (whole n) ≈ whole x) (sym (max-high (le-of-lt h))) (later-right (whole-≼ (le-of-lt h))))
+    (λ h. subst (λ (x : ℕ). later (whole m) (whole n) ≈ whole x) (sym (max-low h)) (later-left (whole-≼ h)))
