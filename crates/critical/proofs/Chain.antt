@@ -10,7 +10,8 @@ use Rattle.fraction.proofs.Scale.{cases, max-high, max-low}
 use Rattle.fraction.proofs.Order.{≼-refl, ≼-trans, ≈-refl, ≈-sym, ≈-trans, ≈-≼, ≈-≽, ≺-≼, ≺-≼-absurd, whole-≼, ≼-whole, plus-≈, later-≈, later-right, later-whole, positive-up}
 use Rattle.critical.specs.Reports.{Reports, Paces, Working, Positive, start, finish, Allowed}
 use Rattle.critical.specs.Rows.{Row, pace, planOf, behind, sum, Busy, CriticalPlan, Critical}
-use Rattle.critical.proofs.Lines.{span, span-one, span-more, sum-mono, line, line-more}
+use Rattle.critical.proofs.Lines.{sum-mono}
+use Rattle.critical.proofs.Runs.{along}
 use Rattle.critical.proofs.Room.{Roomy}
 use Rattle.critical.proofs.Search.{Stretch, stretch-end, stretch-later, floor, floor-in, Found, Ending, at-deadline, at-arrival, way, way-end, Ready, ready-on, leads-slower, leads-faster}
 use Rattle.critical.proofs.Cover.{Follow, InRow, behind-zero, behind-suc, row-of, plan-in}
@@ -158,39 +159,19 @@ module _ (ℓ : Reports) (f : Fraction) (m : ℕ) (rows : ℕ → Row) (ch : Cha
     in-row : (k j : ℕ) → k < m → rows k .first ≤ j → j ≤ rows k .last → T j ≡ pace (rows k)
     in-row k j h a b = plan-in m rows follow j k (record { row = h; from = a; upto = b })
 
-    -- one report on its row's line, from a start that is known
-    step : (k j : ℕ) (x : Fraction) → k < m → rows k .first ≤ j → j ≤ rows k .last → start ℓ T j ≈ x → finish ℓ T j ≈ plus x (times (ℓ .operations j) (pace (rows k)))
-    step k j x h a b e = subst (λ (p : Fraction). finish ℓ T j ≈ plus x (times (ℓ .operations j) p)) (in-row k j h a b) (plus-≈ e (≈-refl (times (ℓ .operations j) (T j))))
-
     module _ (k : ℕ) (h : k < m) (st : start ℓ T (rows k .first) ≈ whole (rows k .start)) where
-      r : Row
-      r = rows k
-
-      along-first : finish ℓ T (rows k .first) ≈ way ℓ (rows k) (rows k .first)
-      unfolding line
-      along-first = rw (span-one) (step k (rows k .first) (whole (rows k .start)) h (le-refl (rows k .first)) (ch k h .found .ordered) st)
-
       -- a report inside the row does not wait
       no-wait : (j : ℕ) → rows k .first ≤ j → j < rows k .last → whole (ℓ .arrival (suc j)) ≼ way ℓ (rows k) j
       no-wait j a b =
           let l = ch k h in
           subst (λ (x : ℕ). whole x ≼ way ℓ (rows k) j) (floor-in ℓ (l .stretch) j (omega (arith, l .found .within))) (l .found .above j a (omega arith))
 
-      along : (j : ℕ) → rows k .first ≤ j → j ≤ rows k .last → finish ℓ T j ≈ way ℓ (rows k) j
-      unfolding start
-      along zero a b = let e : rows k .first ≡ zero = omega arith in subst (λ (x : ℕ). finish ℓ T x ≈ way ℓ (rows k) x) e along-first
-      along (suc j) a b =
-          ⊎-elim (λ (e : rows k .first ≡ suc j). subst (λ (x : ℕ). finish ℓ T x ≈ way ℓ (rows k) x) e along-first)
-          (λ x.
-            let c : rows k .first ≤ j = le-of-suc-le-suc x in
-            let i : finish ℓ T j ≈ way ℓ (rows k) j = along j c (omega arith) in
-            let s : start ℓ T (suc j) ≈ way ℓ (rows k) j = ≈-trans (later-right (≼-trans (no-wait j c b) (≈-≽ i))) i in
-            rw (span-more (ℓ .operations) (rows k .first) j c)
-            (≈-trans (step k (suc j) (way ℓ (rows k) j) h a b s) (line-more (rows k .start) (pace (rows k)) (span (ℓ .operations) (rows k .first) j) (ℓ .operations (suc j)))))
-          (eq-or-lt-of-le a)
+      -- so the row's finishes are on its line
+      on-way : (j : ℕ) → rows k .first ≤ j → j ≤ rows k .last → finish ℓ T j ≈ way ℓ (rows k) j
+      on-way = along ℓ (rows k .start) (rows k .first) (pace (rows k)) T (rows k .last) (λ j a b. in-row k j h a b) st no-wait
 
       ends-at : finish ℓ T (rows k .last) ≈ whole (rows k .end)
-      ends-at = ≈-trans (along (rows k .last) (ch k h .found .ordered) (le-refl (rows k .last))) (way-end ℓ f (ch k h .stretch) (rows k) (ch k h .found) (works k h))
+      ends-at = ≈-trans (on-way (rows k .last) (ch k h .found .ordered) (le-refl (rows k .last))) (way-end ℓ f (ch k h .stretch) (rows k) (ch k h .found) (works k h))
 
     starts-at : (k : ℕ) → k < m → start ℓ T (rows k .first) ≈ whole (rows k .start)
     unfolding start begins
@@ -202,7 +183,7 @@ module _ (ℓ : Reports) (f : Fraction) (m : ℕ) (rows : ℕ → Row) (ch : Cha
     -- ---- so the rows are `Critical`
     module _ (pos : Positive f) (all : behind rows m ≡ ℓ .count) where
       on-line : (i k : ℕ) → InRow m rows i k → finish ℓ T i ≈ way ℓ (rows k) i
-      on-line i k h = along k (h .row) (starts-at k (h .row)) i (h .from) (h .upto)
+      on-line i k h = on-way k (h .row) (starts-at k (h .row)) i (h .from) (h .upto)
 
       end-of : (k : ℕ) → k < m → finish ℓ T (rows k .last) ≈ whole (rows k .end)
       end-of k h = ends-at k h (starts-at k h)

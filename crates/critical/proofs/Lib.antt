@@ -2,7 +2,10 @@ pub mod Numbers
 pub mod Scaled
 pub mod Least
 pub mod Lines
+pub mod Runs
 pub mod Room
 pub mod Search
 pub mod Cover
 pub mod Chain
+pub mod Exists
+pub mod Unique

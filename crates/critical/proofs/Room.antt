@@ -6,21 +6,12 @@ use mathlib.Core.Logic.{_⊎_, inl, inr, ⊎-elim}
 use native.Mathlib.Omega.{arith}
 use native.Mathlib.Nat.{eq-or-lt-of-le, le-of-suc-le-suc, not-suc-le-zero, le-refl}
 use Rattle.fraction.specs.Fraction.{Fraction, _≼_, _≺_, _≈_, whole, plus, times, later}
-use Rattle.fraction.proofs.Order.{≼-refl, ≼-trans, ≈-refl, ≈-≼, ≈-sym, ≈-trans, ≺-≼, ≺-≼-absurd, split, plus-≼, plus-≈, times-≼, later-≼, later-left, later-right, ≼-later-left, ≼-later-right}
+use Rattle.fraction.proofs.Order.{≼-refl, ≼-trans, ≈-refl, ≈-≼, ≈-sym, ≈-trans, ≺-≼, ≺-≼-absurd, split, plus-≼, plus-≈, times-≼, later-≼, later-left, later-right}
 use Rattle.critical.specs.Reports.{Reports, Paces, firstOf, Positive, start, finish, Plannable, FirstWithout}
-use Rattle.critical.proofs.Lines.{span, span-one, span-more, line, line-more}
+use Rattle.critical.proofs.Lines.{span, line}
+use Rattle.critical.proofs.Runs.{arrives, on-first, on-more, never-before}
 
 -- ---- starts and finishes
--- a report starts no sooner than its arrival, and no sooner than the finish before it
-pub arrives : (ℓ : Reports) (T : Paces) (i : ℕ) → whole (ℓ .arrival i) ≼ start ℓ T i
-unfolding start
-arrives ℓ T zero = ≼-refl (whole (ℓ .arrival zero))
-arrives ℓ T (suc i) = ≼-later-left (whole (ℓ .arrival (suc i))) (finish ℓ T i)
-
-pub waits : (ℓ : Reports) (T : Paces) (i : ℕ) → finish ℓ T i ≼ start ℓ T (suc i)
-unfolding start
-waits ℓ T i = ≼-later-right (whole (ℓ .arrival (suc i))) (finish ℓ T i)
-
 -- the faster of two plans starts and finishes no later
 module _ (ℓ : Reports) {T U : Paces} {n : ℕ} (faster : (i : ℕ) → i < n → T i ≼ U i) where
   pub start-≼ : (i : ℕ) → i ≤ n → start ℓ T i ≼ start ℓ U i
@@ -107,47 +98,24 @@ abbrev pub Roomy : Reports → Fraction → Type 0
 Roomy ℓ f = (i j : ℕ) → i ≤ j → j < ℓ .count → line (ℓ .arrival i) f (span (ℓ .operations) i j) ≼ whole (ℓ .deadline j)
 
 module _ (ℓ : Reports) (f : Fraction) where
-  abbrev w : ℕ → ℕ
-  w = ℓ .operations
-
+  -- the line from report i's arrival at the fastest pace
   abbrev run : ℕ → ℕ → Fraction
-  run i j = line (ℓ .arrival i) f (span w i j)
-
-  -- the line from an arrival at the report itself, and one report further
-  run-one : (i : ℕ) → run i i ≈ plus (whole (ℓ .arrival i)) (times (w i) f)
-  unfolding line
-  run-one i = rw span-one (≈-refl (plus (whole (ℓ .arrival i)) (times (w i) f)))
-
-  run-more : (i j : ℕ) → i ≤ j → run i (suc j) ≈ plus (run i j) (times (w (suc j)) f)
-  run-more i j h = rw (span-more w i j h) (≈-sym (line-more (ℓ .arrival i) f (span w i j) (w (suc j))))
-
-  -- a run that is no later than a report's start is, with the report, no later than its finish
-  adds : (x : Fraction) (j : ℕ) → x ≼ start ℓ (steady f) j → plus x (times (w j) f) ≼ finish ℓ (steady f) j
-  adds x j h = plus-≼ h (≼-refl (times (w j) f))
+  run i j = line (ℓ .arrival i) f (span (ℓ .operations) i j)
 
   -- the fastest plan is no sooner than the line from any arrival
-  no-sooner-at : (i : ℕ) → run i i ≼ finish ℓ (steady f) i
-  no-sooner-at i = ≼-trans (≈-≼ (run-one i)) (adds (whole (ℓ .arrival i)) i (arrives ℓ (steady f) i))
-
   pub no-sooner : (i j : ℕ) → i ≤ j → run i j ≼ finish ℓ (steady f) j
-  no-sooner i zero h = let e : i ≡ zero = omega arith in rw e (no-sooner-at zero)
-  no-sooner i (suc j) h =
-      ⊎-elim (λ (e : i ≡ suc j). rw e (no-sooner-at (suc j)))
-      (λ l.
-        let k : i ≤ j = le-of-suc-le-suc l in
-        ≼-trans (≈-≼ (run-more i j k)) (adds (run i j) (suc j) (≼-trans (no-sooner i j k) (waits ℓ (steady f) j))))
-      (eq-or-lt-of-le h)
+  no-sooner i j h = never-before ℓ (ℓ .arrival i) i f (steady f) j (λ k a b. refl) (arrives ℓ (steady f) i) j h (le-refl j)
 
   -- and it is on one of those lines: that from the last report that waited for nothing
   pub on-a-run : (j : ℕ) → (i : ℕ) × (i ≤ j) × (finish ℓ (steady f) j ≈ run i j)
   unfolding start
-  on-a-run zero = (zero, le-refl zero, ≈-sym (run-one zero))
+  on-a-run zero = (zero, le-refl zero, ≈-sym (on-first ℓ (ℓ .arrival zero) zero f))
   on-a-run (suc j) =
       split (whole (ℓ .arrival (suc j))) (finish ℓ (steady f) j)
       (λ l.
         let r = on-a-run j in
-        (r .0, omega (arith, r .1), ≈-trans (plus-≈ (≈-trans (later-right (≺-≼ l)) (r .2)) (≈-refl (times (w (suc j)) f))) (≈-sym (run-more (r .0) j (r .1)))))
-      (λ g. (suc j, le-refl (suc j), ≈-trans (plus-≈ (later-left g) (≈-refl (times (w (suc j)) f))) (≈-sym (run-one (suc j)))))
+        (r .0, omega (arith, r .1), ≈-trans (plus-≈ (≈-trans (later-right (≺-≼ l)) (r .2)) (≈-refl (times (ℓ .operations (suc j)) f))) (≈-sym (on-more ℓ (ℓ .arrival (r .0)) (r .0) f j (r .1)))))
+      (λ g. (suc j, le-refl (suc j), ≈-trans (plus-≈ (later-left g) (≈-refl (times (ℓ .operations (suc j)) f))) (≈-sym (on-first ℓ (ℓ .arrival (suc j)) (suc j) f))))
 
   -- the pass holds throughout exactly when the list is roomy
   pub holds-roomy : HoldsTo ℓ f (ℓ .count) → Roomy ℓ f
