@@ -9,3 +9,4 @@ pub mod Cover
 pub mod Chain
 pub mod Exists
 pub mod Unique
+pub mod Costs
