@@ -10,3 +10,5 @@ pub mod Chain
 pub mod Exists
 pub mod Unique
 pub mod Costs
+pub mod Tests
+pub mod Table

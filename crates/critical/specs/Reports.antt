@@ -2,6 +2,8 @@
 -- Nothing here asks that arrivals or deadlines are in any order.
 -- Assumes nothing.
 use Prim.Native.Nat.{ℕ, zero, suc, _<_}
+use mathlib.Core.List.{List}
+use lib.ListN.{length, getD}
 use Rattle.fraction.specs.Fraction.{Fraction, _≼_, _≺_, whole, plus, times, later}
 
 -- A list of reports: how many, and the arrival, the deadline and the operations of each, counted from 0.
@@ -10,6 +12,15 @@ pub record Reports : Type 0 where
   pub arrival : ℕ → ℕ
   pub deadline : ℕ → ℕ
   pub operations : ℕ → ℕ
+
+-- The list of three lists of numbers: arrivals, deadlines and operations, report by report.
+abbrev pub listOf : List ℕ → List ℕ → List ℕ → Reports
+listOf arrivals deadlines operations = record {
+  count = length arrivals;
+  arrival = λ i. getD arrivals i 0;
+  deadline = λ i. getD deadlines i 0;
+  operations = λ i. getD operations i 0;
+}
 
 -- The first n reports by themselves.
 abbrev pub firstOf : ℕ → Reports → Reports
