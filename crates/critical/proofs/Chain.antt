@@ -84,9 +84,9 @@ module _ (ℓ : Reports) (f : Fraction) (s p : ℕ) (r : Row) (l : Link ℓ f s 
   ready-behind roomy working m st =
       ⊎-elim
       (λ (e : r .last ≡ k). let x : max a (r .end) ≡ a = max-low (omega (arith, closes e, idles e (omega (arith, st .from, st .on-list)))) in
-        λ j h n. rw x (roomy (suc (r .last)) j h (omega (arith, st .on-list))))
+      λ j h n. rw x (roomy (suc (r .last)) j h (omega (arith, st .on-list))))
       (λ h. let e : k ≡ m = stretch-end ℓ (suc (r .last)) k m (stretch-later ℓ (r .first) (suc (r .last)) k (l .is) (omega (arith, l .found .ordered)) h) st in
-        rw (at-end h) (subst (λ (n : ℕ). Ready ℓ f (r .end) (suc (r .last)) n) e (ready-on ℓ f k r (l .found) working roomy (r .first) (l .is) (l .found .ordered) h)))
+      rw (at-end h) (subst (λ (n : ℕ). Ready ℓ f (r .end) (suc (r .last)) n) e (ready-on ℓ f k r (l .found) working roomy (r .first) (l .is) (l .found .ordered) h)))
       (eq-or-lt-of-le (l .found .within))
 
 -- ---- how one row leads into the next: over idle time, into a slower row at its deadline, or into a faster one at the next arrival
@@ -196,13 +196,15 @@ module _ (ℓ : Reports) (f : Fraction) (m : ℕ) (rows : ℕ → Row) (ch : Cha
       goes-on-to k h l = ⊎-elim (λ (e : suc k ≡ m). absurd (omega (arith, behind-suc rows k, ap (behind rows) e, all))) (λ x. x) (eq-or-lt-of-le h)
 
       -- a statement of neighbours, by where they stand: inside a row, or where one row leads into the next
-      neighbours : (P : ℕ → Type 0) → ((i k : ℕ) → InRow m rows i k → i < rows k .last → P i) → ((k : ℕ) → suc k < m → Turn ℓ (rows k) (rows (suc k)) → P (rows k .last)) → (i : ℕ) → suc i < ℓ .count → P i
+      neighbours :
+          (P : ℕ → Type 0) → ((i k : ℕ) → InRow m rows i k → i < rows k .last → P i) →
+          ((k : ℕ) → suc k < m → Turn ℓ (rows k) (rows (suc k)) → P (rows k .last)) → (i : ℕ) → suc i < ℓ .count → P i
       neighbours P inside between i h =
           let r = place i (omega arith) in
           let k : ℕ = r .0 in
           ⊎-elim (λ (e : i ≡ rows k .last).
-              let n : suc k < m = goes-on-to k (r .1 .row) (subst (λ (x : ℕ). suc x < ℓ .count) e h) in
-              subst P (sym e) (between k n (turn k n)))
+          let n : suc k < m = goes-on-to k (r .1 .row) (subst (λ (x : ℕ). suc x < ℓ .count) e h) in
+          subst P (sym e) (between k n (turn k n)))
           (λ x. inside i k (r .1) x) (eq-or-lt-of-le (r .1 .upto))
 
       pub allowed : Allowed ℓ f T
@@ -239,21 +241,27 @@ module _ (ℓ : Reports) (f : Fraction) (m : ℕ) (rows : ℕ → Row) (ch : Cha
           (λ i k h l g. absurd (omega (arith, ch k (h .row) .is .joined i (h .from) (omega (arith, ch k (h .row) .found .within)))))
           between
         where
-          between : (k : ℕ) → suc k < m → Turn ℓ (rows k) (rows (suc k)) → ℓ .deadline (rows k .last) < ℓ .arrival (suc (rows k .last)) → finish ℓ T (rows k .last) ≈ whole (ℓ .deadline (rows k .last))
+          between :
+              (k : ℕ) → suc k < m → Turn ℓ (rows k) (rows (suc k)) → ℓ .deadline (rows k .last) < ℓ .arrival (suc (rows k .last)) →
+              finish ℓ T (rows k .last) ≈ whole (ℓ .deadline (rows k .last))
           between k h (idle x e) g = ends-by k (ℓ .deadline (rows k .last)) (omega arith) e
           between k h (rises e x) g = ends-by k (ℓ .deadline (rows k .last)) (omega arith) e
           between k h (falls e x) g =
               absurd
-              (omega
-              (arith, ≼-whole (ℓ .arrival (suc (rows k .last))) (ℓ .deadline (rows k .last))
-              (≼-trans (≈-≽ (ends-by k (ℓ .arrival (suc (rows k .last))) (omega arith) e)) (allowed .keeps .in-time (rows k .last) (on-list k (omega arith))))))
+              (omega (
+                arith,
+                ≼-whole (ℓ .arrival (suc (rows k .last))) (ℓ .deadline (rows k .last))
+                    (≼-trans (≈-≽ (ends-by k (ℓ .arrival (suc (rows k .last))) (omega arith) e)) (allowed .keeps .in-time (rows k .last) (on-list k (omega arith)))),
+              ))
 
       one-busy : (i : ℕ) → suc i < ℓ .count → ℓ .arrival (suc i) ≤ ℓ .deadline i → Busy ℓ T i
       one-busy =
           neighbours (λ i. ℓ .arrival (suc i) ≤ ℓ .deadline i → Busy ℓ T i)
           (λ i k h l g. ≼-trans (no-wait k (h .row) (starts-at k (h .row)) i (h .from) l) (≈-≽ (on-line i k h))) between
         where
-          between : (k : ℕ) → suc k < m → Turn ℓ (rows k) (rows (suc k)) → ℓ .arrival (suc (rows k .last)) ≤ ℓ .deadline (rows k .last) → Busy ℓ T (rows k .last)
+          between :
+              (k : ℕ) → suc k < m → Turn ℓ (rows k) (rows (suc k)) → ℓ .arrival (suc (rows k .last)) ≤ ℓ .deadline (rows k .last) →
+              Busy ℓ T (rows k .last)
           between k h (idle x e) g = absurd (omega arith)
           between k h (rises e x) g = ≼-trans (whole-≼ g) (≈-≽ (ends-by k (ℓ .deadline (rows k .last)) (omega arith) e))
           between k h (falls e x) g = ≈-≽ (ends-by k (ℓ .arrival (suc (rows k .last))) (omega arith) e)
@@ -263,7 +271,9 @@ module _ (ℓ : Reports) (f : Fraction) (m : ℕ) (rows : ℕ → Row) (ch : Cha
           neighbours (λ i. Busy ℓ T i → T i ≺ T (suc i) → finish ℓ T i ≈ whole (ℓ .deadline i))
           (λ i k h l b x. absurd (≺-≼-absurd x (rw (← one-pace i k h l) (≼-refl (T i))))) between
         where
-          between : (k : ℕ) → suc k < m → Turn ℓ (rows k) (rows (suc k)) → Busy ℓ T (rows k .last) → T (rows k .last) ≺ T (suc (rows k .last)) → finish ℓ T (rows k .last) ≈ whole (ℓ .deadline (rows k .last))
+          between :
+              (k : ℕ) → suc k < m → Turn ℓ (rows k) (rows (suc k)) → Busy ℓ T (rows k .last) →
+              T (rows k .last) ≺ T (suc (rows k .last)) → finish ℓ T (rows k .last) ≈ whole (ℓ .deadline (rows k .last))
           between k h (idle x e) b y = ends-by k (ℓ .deadline (rows k .last)) (omega arith) e
           between k h (rises e x) b y = ends-by k (ℓ .deadline (rows k .last)) (omega arith) e
           between k h (falls e x) b y = absurd (≺-≼-absurd y (rw (pace-last k (omega arith), pace-next k h) (≺-≼ x)))
@@ -273,7 +283,9 @@ module _ (ℓ : Reports) (f : Fraction) (m : ℕ) (rows : ℕ → Row) (ch : Cha
           neighbours (λ i. Busy ℓ T i → T (suc i) ≺ T i → finish ℓ T i ≈ whole (ℓ .arrival (suc i)))
           (λ i k h l b x. absurd (≺-≼-absurd x (rw (← one-pace i k h l) (≼-refl (T i))))) between
         where
-          between : (k : ℕ) → suc k < m → Turn ℓ (rows k) (rows (suc k)) → Busy ℓ T (rows k .last) → T (suc (rows k .last)) ≺ T (rows k .last) → finish ℓ T (rows k .last) ≈ whole (ℓ .arrival (suc (rows k .last)))
+          between :
+              (k : ℕ) → suc k < m → Turn ℓ (rows k) (rows (suc k)) → Busy ℓ T (rows k .last) →
+              T (suc (rows k .last)) ≺ T (rows k .last) → finish ℓ T (rows k .last) ≈ whole (ℓ .arrival (suc (rows k .last)))
           between k h (idle x e) b y = absurd (omega (arith, not-idle k (ℓ .deadline (rows k .last)) (omega arith) e b))
           between k h (rises e x) b y = absurd (≺-≼-absurd y (rw (pace-last k (omega arith), pace-next k h) (≺-≼ x)))
           between k h (falls e x) b y = ends-by k (ℓ .arrival (suc (rows k .last))) (omega arith) e

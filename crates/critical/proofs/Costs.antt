@@ -108,7 +108,9 @@ module _ (M N : ℕ) (rest : Fraction) where
   slopes p (q ∷ ps) fl fit =
       (le-at (at-scaled (fit .0)) (at-scaled (fit .2 .0)) (fl .0), le-at (at-scaled (fit .2 .1)) (at-scaled (fit .1)) (fl .1), slopes q ps (fl .2) (fit .2))
 
-  at-fallen : (posM : 0 < M) (posN : 0 < N) (from x : Fraction) (F X : ℕ) (ps : List Piece) → FitAll ps → At M from F → At M x X → At (N * M) (fallen from ps rest x) (drop F ps X)
+  at-fallen :
+      (posM : 0 < M) (posN : 0 < N) (from x : Fraction) (F X : ℕ) (ps : List Piece) → FitAll ps → At M from F → At M x X →
+      At (N * M) (fallen from ps rest x) (drop F ps X)
   unfolding fallen drop FitAll
   at-fallen posM posN from x F X [] fit af ax = at-product (at-scaled fit) (at-less posM ax af)
   at-fallen posM posN from x F X (p ∷ ps) fit af ax =
@@ -223,7 +225,9 @@ module _ (ℓ : Reports) (T U : Paces) (c : Cost) where
   unfolding M K
   aU i h = at-more (reaches (c .pieces)) (at-rival ℓ T U (whole 0) i h)
 
-  at-off : {R : Paces} {v : ℕ → ℕ} → AtAll M R n v → At (N * M) (total ℓ (λ i. fallen (whole zero) (c .pieces) (c .rest) (R i)) n) (weigh n (ℓ .operations) v v (drop M N (c .rest) zero (c .pieces)) v)
+  at-off :
+      {R : Paces} {v : ℕ → ℕ} → AtAll M R n v →
+      At (N * M) (total ℓ (λ i. fallen (whole zero) (c .pieces) (c .rest) (R i)) n) (weigh n (ℓ .operations) v v (drop M N (c .rest) zero (c .pieces)) v)
   at-off av = at-total ℓ (mul-pos posN posM) (λ i h. at-fallen M N (c .rest) posM posN (whole zero) _ zero _ (c .pieces) fit (rw mul-zero at (at-whole M zero)) (av i h)) n (le-refl n)
 
   pub least-cost : (fastest : Fraction) → Flatter (c .pieces) (c .rest) → CriticalPlan ℓ fastest T → Keeps ℓ U → NoHigher (bill ℓ c T) (bill ℓ c U)

@@ -56,7 +56,7 @@ module _ (m : ℕ) (rows : ℕ → Row) (fl : Follow m rows) where
       ⊎-elim
       (λ (e : k ≡ n). ap (λ t. cond t n (holder rows n i)) (le-leb (rows n .first) i (subst (λ (x : ℕ). rows x .first ≤ i) e a)) ∙ sym e)
       (λ x. ap (λ t. cond t n (holder rows n i)) (lt-leb (rows n .first) i (omega (arith, fl .follows n l, behind-mono (suc k) n x (omega arith), behind-suc rows k)))
-        ∙ holder-at n i k (omega arith) x a b)
+      ∙ holder-at n i k (omega arith) x a b)
       (eq-or-lt-of-le (le-of-suc-le-suc h))
 
   -- so a report has the pace of its row

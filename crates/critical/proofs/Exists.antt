@@ -27,7 +27,9 @@ put-at : (rows : ℕ → Row) (m : ℕ) (r : Row) → put rows m r m ≡ r
 put-at rows m r = ap (λ b. cond b (rows m) r) (le-ltb m m (le-refl m))
 
 -- before the first search and before each next one, the list is ready
-pub ready : (ℓ : Reports) (f : Fraction) → Roomy ℓ f → Working ℓ → (m : ℕ) (rows : ℕ → Row) → Chain ℓ f m rows → (k : ℕ) → Stretch ℓ (behind rows m) k → Ready ℓ f (begins ℓ rows m) (behind rows m) k
+pub ready :
+    (ℓ : Reports) (f : Fraction) → Roomy ℓ f → Working ℓ → (m : ℕ) (rows : ℕ → Row) → Chain ℓ f m rows → (k : ℕ) →
+    Stretch ℓ (behind rows m) k → Ready ℓ f (begins ℓ rows m) (behind rows m) k
 unfolding begins behind
 ready ℓ f roomy working zero rows ch k st = λ j h l. roomy zero j h (omega (arith, st .on-list))
 ready ℓ f roomy working (suc m) rows ch k st =
@@ -45,7 +47,9 @@ module _ (ℓ : Reports) (f : Fraction) (roomy : Roomy ℓ f) (working : Working
       let go : (rows′ : ℕ → Row) → Chain ℓ f (suc m) rows′ → behind rows′ (suc m) ≤ ℓ .count → ℓ .count ≤ behind rows′ (suc m) + fuel → Done = build fuel (suc m) in
       cases (behind rows m) (ℓ .count) (more go) (λ h. (m, rows, ch, omega arith))
     where
-      more : ((rows′ : ℕ → Row) → Chain ℓ f (suc m) rows′ → behind rows′ (suc m) ≤ ℓ .count → ℓ .count ≤ behind rows′ (suc m) + fuel → Done) → behind rows m < ℓ .count → Done
+      more :
+          ((rows′ : ℕ → Row) → Chain ℓ f (suc m) rows′ → behind rows′ (suc m) ≤ ℓ .count → ℓ .count ≤ behind rows′ (suc m) + fuel → Done) →
+          behind rows m < ℓ .count → Done
       more go h =
           let p : ℕ = behind rows m in
           let t = stretch-from ℓ p h in

@@ -12,3 +12,4 @@ pub mod Unique
 pub mod Costs
 pub mod Tests
 pub mod Table
+pub mod Theorems

@@ -115,16 +115,18 @@ module _ (a d w t u : ℕ → ℕ) (C : ℕ) where
         idle g =
             from-level (suc i) (closes i s in-time (λ f. j .idle i h g)) (arrives (suc i)) (λ f. omega (arith, j .idle i h g))
 
-        fast-again : a (suc i) ≤ ends a w t i → t i < C → t (suc i) < C → sum (ours w t C) (suc (suc i)) + sum (strays w t u C) (suc (suc i)) + ends a w t (suc i) ≤ sum (ours w u C) (suc (suc i)) + ends a w u (suc i)
+        fast-again :
+            a (suc i) ≤ ends a w t i → t i < C → t (suc i) < C →
+            sum (ours w t C) (suc (suc i)) + sum (strays w t u C) (suc (suc i)) + ends a w t (suc i) ≤ sum (ours w u C) (suc (suc i)) + ends a w u (suc i)
         fast-again b f f′ = omega (arith, s .fast f, fast-ours w t u C (suc i) f′, fast-rival w t u C (suc i) f′)
 
         busy : a (suc i) ≤ d i → Weighed (suc i)
         busy g =
             let b : a (suc i) ≤ ends a w t i = j .busy i h g
             in cases (t i) C
-               (λ f. cases (t (suc i)) C (λ f′. record { fast = λ _. fast-again b f f′; slow = λ sl. absurd (omega arith) })
-               (λ sl. from-level (suc i) (closes i s in-time (λ _. j .rise i h b (omega arith))) (arrives (suc i)) (λ f′. absurd (omega arith))))
-               (λ sl. from-level (suc i) (s .slow sl) (arrives (suc i)) (λ f′. omega (arith, j .fall i h b (omega arith))))
+            (λ f. cases (t (suc i)) C (λ f′. record { fast = λ _. fast-again b f f′; slow = λ sl. absurd (omega arith) })
+            (λ sl. from-level (suc i) (closes i s in-time (λ _. j .rise i h b (omega arith))) (arrives (suc i)) (λ f′. absurd (omega arith))))
+            (λ sl. from-level (suc i) (s .slow sl) (arrives (suc i)) (λ f′. omega (arith, j .fall i h b (omega arith))))
 
     weighed : (i : ℕ) → i < n → Weighed i
     unfolding sum starts Level
@@ -150,6 +152,8 @@ module _ (a d w t u : ℕ → ℕ) (n : ℕ) (j : Joints n a d w t) (k : InTime 
       (λ g. g)
 
 -- two plans with the four properties, both in time, have the same paces
-pub same-pace : (a d w t u : ℕ → ℕ) (n : ℕ) → Joints n a d w t → InTime n a d w t → Joints n a d w u → InTime n a d w u → ((i : ℕ) → i < n → 0 < w i) → (i : ℕ) → i < n → t i ≤ u i
+pub same-pace :
+    (a d w t u : ℕ → ℕ) (n : ℕ) → Joints n a d w t → InTime n a d w t → Joints n a d w u → InTime n a d w u →
+    ((i : ℕ) → i < n → 0 < w i) → (i : ℕ) → i < n → t i ≤ u i
 same-pace a d w t u n j k j′ k′ p i h =
     not-faster a d w t u n j k′ (t i) i h (p i h) (omega (arith, strong a d w u t (t i) n j′ k)) (le-refl (t i))

@@ -33,6 +33,19 @@ start-first ℓ T n (suc i) =
 pub finish-first : (ℓ : Reports) (T : Paces) (n i : ℕ) → finish (firstOf n ℓ) T i ≡ finish ℓ T i
 finish-first ℓ T n i = ap (λ (s : Fraction). plus s (times (ℓ .operations i) (T i))) (start-first ℓ T n i)
 
+-- an allowed plan is one for the first reports too
+pub shorter : (ℓ : Reports) (f : Fraction) (n : ℕ) → n ≤ ℓ .count → Plannable ℓ f → Plannable (firstOf n ℓ) f
+shorter ℓ f n h p = (
+  p .0,
+  record {
+    keeps = record {
+      positive = λ i l. p .1 .keeps .positive i (omega arith);
+      in-time = λ i l. subst (λ (x : Fraction). x ≼ whole (ℓ .deadline i)) (sym (finish-first ℓ (p .0) n i)) (p .1 .keeps .in-time i (omega arith));
+    };
+    no-faster = λ i l. p .1 .no-faster i (omega arith);
+  },
+)
+
 -- ---- the pass at the fastest pace
 -- every report at one pace
 abbrev pub steady : Fraction → Paces
@@ -60,13 +73,16 @@ module _ (ℓ : Reports) (f : Fraction) where
   module _ (pos : Positive f) where
     -- where the pass holds, the fastest pace is an allowed plan
     pub holds-plan : (n : ℕ) → HoldsTo ℓ f n → Plannable (firstOf n ℓ) f
-    holds-plan n k = (steady f, record {
-      keeps = record {
-        positive = λ i h. pos;
-        in-time = λ i h. subst (λ (x : Fraction). x ≼ whole (ℓ .deadline i)) (sym (finish-first ℓ (steady f) n i)) (k i h);
-      };
-      no-faster = λ i h. ≼-refl f;
-    })
+    holds-plan n k = (
+      steady f,
+      record {
+        keeps = record {
+          positive = λ i h. pos;
+          in-time = λ i h. subst (λ (x : Fraction). x ≼ whole (ℓ .deadline i)) (sym (finish-first ℓ (steady f) n i)) (k i h);
+        };
+        no-faster = λ i h. ≼-refl f;
+      },
+    )
 
     -- the pass stops at the first report without a plan, and nowhere else
     pub stops-first : (i : ℕ) → i < ℓ .count → HoldsTo ℓ f i → whole (ℓ .deadline i) ≺ finish ℓ (steady f) i → FirstWithout ℓ f i
@@ -113,8 +129,8 @@ module _ (ℓ : Reports) (f : Fraction) where
   on-a-run (suc j) =
       split (whole (ℓ .arrival (suc j))) (finish ℓ (steady f) j)
       (λ l.
-        let r = on-a-run j in
-        (r .0, omega (arith, r .1), ≈-trans (plus-≈ (≈-trans (later-right (≺-≼ l)) (r .2)) (≈-refl (times (ℓ .operations (suc j)) f))) (≈-sym (on-more ℓ (ℓ .arrival (r .0)) (r .0) f j (r .1)))))
+      let r = on-a-run j in
+      (r .0, omega (arith, r .1), ≈-trans (plus-≈ (≈-trans (later-right (≺-≼ l)) (r .2)) (≈-refl (times (ℓ .operations (suc j)) f))) (≈-sym (on-more ℓ (ℓ .arrival (r .0)) (r .0) f j (r .1)))))
       (λ g. (suc j, le-refl (suc j), ≈-trans (plus-≈ (later-left g) (≈-refl (times (ℓ .operations (suc j)) f))) (≈-sym (on-first ℓ (ℓ .arrival (suc j)) (suc j) f))))
 
   -- the pass holds throughout exactly when the list is roomy

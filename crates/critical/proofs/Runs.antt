@@ -66,15 +66,15 @@ module _ (ℓ : Reports) (s p : ℕ) (t : Fraction) where
         each (λ j. finish ℓ T j ≈ on j)
         (λ b. ≈-trans (adds p (le-refl p) b) (≈-trans (plus-≈ h (≈-refl (times (w p) t))) (≈-sym on-first)))
         (λ j a b k. ≈-trans (adds (suc j) (omega arith) b)
-          (≈-trans (plus-≈ (≈-trans (starts-on ℓ T j (≼-trans (meets j a b) (≈-≽ k))) k) (≈-refl (times (w (suc j)) t))) (≈-sym (on-more j a))))
+        (≈-trans (plus-≈ (≈-trans (starts-on ℓ T j (≼-trans (meets j a b) (≈-≽ k))) k) (≈-refl (times (w (suc j)) t))) (≈-sym (on-more j a))))
 
     -- once a report has waited, the run is behind the line
     behind : whole s ≼ start ℓ T p → (i : ℕ) → p ≤ i → finish ℓ T i ≺ whole (ℓ .arrival (suc i)) → (j : ℕ) → i < j → j ≤ q → on j ≺ finish ℓ T j
     behind h i a x zero l b = absurd (omega arith)
     behind h i a x (suc j) l b =
         let late : on j ≺ start ℓ T (suc j) =
-            ⊎-elim (λ (e : i ≡ j). ≼-≺-trans (never-before h j (omega arith) (omega arith)) (≺-≼-trans (subst (λ (y : ℕ). finish ℓ T y ≺ whole (ℓ .arrival (suc y))) e x) (arrives ℓ T (suc j))))
-            (λ m. ≺-≼-trans (behind h i a x j m (omega arith)) (waits ℓ T j)) (eq-or-lt-of-le (le-of-suc-le-suc l)) in
+        ⊎-elim (λ (e : i ≡ j). ≼-≺-trans (never-before h j (omega arith) (omega arith)) (≺-≼-trans (subst (λ (y : ℕ). finish ℓ T y ≺ whole (ℓ .arrival (suc y))) e x) (arrives ℓ T (suc j))))
+        (λ m. ≺-≼-trans (behind h i a x j m (omega arith)) (waits ℓ T j)) (eq-or-lt-of-le (le-of-suc-le-suc l)) in
         ≼-≺-trans (≈-≼ (on-more j (omega arith))) (≺-≼-trans (plus-≺ late (≼-refl (times (w (suc j)) t))) (≈-≽ (adds (suc j) (omega arith) b)))
 
     -- so a run that ends on the line has no idle time

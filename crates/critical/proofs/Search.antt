@@ -18,7 +18,6 @@ use Rattle.critical.proofs.Lines.{span, span-join, span-pos, line, line
 use Rattle.critical.proofs.Room.{Roomy}
 
 infix 50 _≻_ _≽_
-
 -- ---- a direction: the order of fractions, or the order turned round. What is shown of one holds of the other.
 pub record Direction (lt le : Fraction → Fraction → Type 0) : Type 0 where
   pub same : (f : Fraction) → le f f
@@ -86,12 +85,11 @@ pub record Leaves (lt : Fraction → Fraction → Type 0) (way : ℕ → Fractio
 -- The exit lemma, over a direction: where the line of one block leaves behind report q, the line of the next block, from the same place, is not on this
 -- side of it everywhere.
 module _ {lt le : Fraction → Fraction → Type 0} (o : Direction lt le) (way next : ℕ → Fraction) (far near : ℕ → ℕ) (q r k : ℕ)
-  (between : (j : ℕ) → q < j → j ≤ k → le (whole (near j)) (whole (far j)))
-  (beside : (j : ℕ) → q < j → j ≤ k → le (next j) (way j))
-  (old : Leaves lt way far near q k)
-  (some : q < r) (on : r ≤ k)
-  (inside : (j : ℕ) → q < j → j ≤ r → le (whole (near j)) (next j)) where
-
+    (between : (j : ℕ) → q < j → j ≤ k → le (whole (near j)) (whole (far j)))
+    (beside : (j : ℕ) → q < j → j ≤ k → le (next j) (way j))
+    (old : Leaves lt way far near q k)
+    (some : q < r) (on : r ≤ k)
+    (inside : (j : ℕ) → q < j → j ≤ r → le (whole (near j)) (next j)) where
   i : ℕ
   i = old .out
 
@@ -124,13 +122,13 @@ module _ {lt le : Fraction → Fraction → Type 0} (o : Direction lt le) (way n
       later h =
           cases i j
           (λ m. o .clash (way i) (whole (near i)) (old .leaves)
-            (o .trans (whole (near i)) (next i) (way i) (o .weaken (whole (near i)) (next i) (l .short i h m)) (beside i (old .after) (old .upto))))
+          (o .trans (whole (near i)) (next i) (way i) (o .weaken (whole (near i)) (next i) (l .short i h m)) (beside i (old .after) (old .upto))))
           (λ m. ⊎-elim
-            (λ (e : j ≡ i). o .clash (way i) (whole (near i)) (old .leaves)
-              (o .trans (whole (near i)) (whole (far i)) (way i) (between i (old .after) (old .upto))
-              (o .trans (whole (far i)) (next i) (way i) (subst (λ (x : ℕ). le (whole (far x)) (next x)) e (o .weaken (whole (far j)) (next j) (l .leaves))) (beside i (old .after) (old .upto)))))
-            (λ s. beyond j (omega (arith, l .after, some)) s (o .weaken (whole (far j)) (next j) (l .leaves)))
-            (eq-or-lt-of-le m))
+          (λ (e : j ≡ i). o .clash (way i) (whole (near i)) (old .leaves)
+          (o .trans (whole (near i)) (whole (far i)) (way i) (between i (old .after) (old .upto))
+          (o .trans (whole (far i)) (next i) (way i) (subst (λ (x : ℕ). le (whole (far x)) (next x)) e (o .weaken (whole (far j)) (next j) (l .leaves))) (beside i (old .after) (old .upto)))))
+          (λ s. beyond j (omega (arith, l .after, some)) s (o .weaken (whole (far j)) (next j) (l .leaves)))
+          (eq-or-lt-of-le m))
 
 -- ---- the stretch
 -- reports p to k without idle time between them: a longest run in which each next arrival is not behind the deadline
@@ -328,7 +326,9 @@ module _ (ℓ : Reports) (f : Fraction) (s p k : ℕ) (st : Stretch ℓ p k) (wo
         e = floor-in ℓ k l inner
 
     -- neither: report j joins, and the kept indices are again the last of the best
-    pub scan-more : (h′ l′ : ℕ) → j ≤ k → lo j ≼ hi h → lo l ≼ hi j → Best _≺_ _≼_ hi p (suc j) h′ → Best _≻_ _≽_ lo p (suc j) l′ → Scan ℓ s p k (suc j) h′ l′
+    pub scan-more :
+        (h′ l′ : ℕ) → j ≤ k → lo j ≼ hi h → lo l ≼ hi j → Best _≺_ _≼_ hi p (suc j) h′ → Best _≻_ _≽_ lo p (suc j) l′ →
+        Scan ℓ s p k (suc j) h′ l′
     scan-more h′ l′ on a b least greatest = record { least = least; greatest = greatest; apart = meet (below-or l′ (greatest .before)) (below-or h′ (least .before)) }
       where
         below-or : (x : ℕ) → x < suc j → (x ≡ j) ⊎ (x < j)
@@ -365,10 +365,10 @@ module _ (ℓ : Reports) (f : Fraction) (s p k : ℕ) (st : Stretch ℓ p k) (wo
       (λ m. split (hi h) (lo j) (λ x. (h, ℓ .deadline h, finds-rise j h l sc m x))
       (λ a. split (hi j) (lo l) (λ x. (l, ℓ .arrival (suc l), finds-fall j h l sc m x))
       (λ b. split (hi h) (hi j)
-        (λ y. split (lo j) (lo l) (λ z. go h l m (scan-more j h l sc h l m a b (best-keep up hi p j h (sc .least) y) (best-keep down lo p j l (sc .greatest) z)))
-          (λ z. go h j m (scan-more j h l sc h j m a b (best-keep up hi p j h (sc .least) y) (best-take down lo p j l (sc .greatest) z))))
-        (λ y. split (lo j) (lo l) (λ z. go j l m (scan-more j h l sc j l m a b (best-take up hi p j h (sc .least) y) (best-keep down lo p j l (sc .greatest) z)))
-          (λ z. go j j m (scan-more j h l sc j j m a b (best-take up hi p j h (sc .least) y) (best-take down lo p j l (sc .greatest) z)))))))
+      (λ y. split (lo j) (lo l) (λ z. go h l m (scan-more j h l sc h l m a b (best-keep up hi p j h (sc .least) y) (best-keep down lo p j l (sc .greatest) z)))
+      (λ z. go h j m (scan-more j h l sc h j m a b (best-keep up hi p j h (sc .least) y) (best-take down lo p j l (sc .greatest) z))))
+      (λ y. split (lo j) (lo l) (λ z. go j l m (scan-more j h l sc j l m a b (best-take up hi p j h (sc .least) y) (best-keep down lo p j l (sc .greatest) z)))
+      (λ z. go j j m (scan-more j h l sc j j m a b (best-take up hi p j h (sc .least) y) (best-take down lo p j l (sc .greatest) z)))))))
 
   pub search-finds : (q : ℕ) × (e : ℕ) × Found ℓ f k (rowOf ℓ s p q e)
   search-finds = search-from (suc k) (suc p) p p scan-first (omega (arith, st .from)) (omega arith)
@@ -400,7 +400,9 @@ module _ (ℓ : Reports) (f : Fraction) (k : ℕ) (r : Row) (fd : Found ℓ f k 
       no-later j h = ≼-trans (line-≼ (r .end) (span w (suc (r .last)) j) (fd .enough)) (≈-≽ (way-on j h))
 
       -- from a report where the line lies before the next arrival, room does the rest
-      behind : (i j : ℕ) → r .last < i → i < j → j ≤ k → way ℓ r i ≺ whole (floor ℓ k i) → line (r .end) f (span w (suc (r .last)) j) ≼ whole (ℓ .deadline j)
+      behind :
+          (i j : ℕ) → r .last < i → i < j → j ≤ k → way ℓ r i ≺ whole (floor ℓ k i) →
+          line (r .end) f (span w (suc (r .last)) j) ≼ whole (ℓ .deadline j)
       behind i j a b c x =
           rw (span-join w (suc (r .last)) i j a b)
           (≼-trans (≈-≽ (line-more (r .end) f (span w (suc (r .last)) i) (span w (suc i) j)))
@@ -413,13 +415,12 @@ module _ (ℓ : Reports) (f : Fraction) (k : ℕ) (r : Row) (fd : Found ℓ f k 
           let v = l inner in
           cases j (v .out) (λ x. ≼-trans (no-later j h) (≺-≼ (v .short j h x)))
           (λ x. ⊎-elim (λ (y : v .out ≡ j). ≼-trans (no-later j h) (≼-trans (≺-≼ (subst (λ (z : ℕ). way ℓ r z ≺ whole (floor ℓ k z)) y (v .leaves))) (whole-≼ (floor-≤ ℓ p k j st (omega arith) m))))
-            (λ y. behind (v .out) j (v .after) y m (v .leaves)) (eq-or-lt-of-le x))
+          (λ y. behind (v .out) j (v .after) y m (v .leaves)) (eq-or-lt-of-le x))
 
 -- ---- where one row leads into the next of its stretch, which starts where it ends
 module _ (ℓ : Reports) (f : Fraction) (p k : ℕ) (st : Stretch ℓ p k) (r r′ : Row) (fd : Found ℓ f k r) (fd′ : Found ℓ f k r′)
-  (working : 0 < ℓ .operations (r .first)) (working′ : 0 < ℓ .operations (r′ .first))
-  (from : p ≤ r .last) (next : r′ .first ≡ suc (r .last)) (joins : r′ .start ≡ r .end) where
-
+    (working : 0 < ℓ .operations (r .first)) (working′ : 0 < ℓ .operations (r′ .first))
+    (from : p ≤ r .last) (next : r′ .first ≡ suc (r .last)) (joins : r′ .start ≡ r .end) where
   -- this row's line, seen from where the next one starts
   onward : (j : ℕ) → r .last < j → way ℓ r j ≈ line (r′ .start) (pace r) (span (ℓ .operations) (r′ .first) j)
   onward j h = rw (next, joins) (way-on ℓ f k r fd working j h)

@@ -69,7 +69,9 @@ module _ (ℓ : Reports) (f : Fraction) (m : ℕ) (rows : ℕ → Row) (c : Crit
         (≼-trans (≈-≼ (c .ends k h)) (≈-≽ way-end))
 
 -- rows of five equal numbers
-pub row-≡ : (r r′ : Row) → r .first ≡ r′ .first → r .last ≡ r′ .last → r .start ≡ r′ .start → r .end ≡ r′ .end → r .operations ≡ r′ .operations → r ≡ r′
+pub row-≡ :
+    (r r′ : Row) → r .first ≡ r′ .first → r .last ≡ r′ .last → r .start ≡ r′ .start → r .end ≡ r′ .end →
+    r .operations ≡ r′ .operations → r ≡ r′
 row-≡ r r′ a b c d e = λ i. record { first = a i; last = b i; start = c i; end = d i; operations = e i }
 
 -- ---- two lists of `Critical` rows
@@ -162,7 +164,9 @@ module _ (ℓ : Reports) (working : Working ℓ) (f f′ : Fraction) (m m′ : �
   no-fewer h =
       omega (arith, agree m (le-refl m) (omega arith), c .covers, c′ .follows m h, c′ .holds m h, last-on-list ℓ f′ m′ rows′ c′ m h)
 
-pub one-count : (ℓ : Reports) → Working ℓ → (f f′ : Fraction) (m m′ : ℕ) (rows rows′ : ℕ → Row) → Critical ℓ f m rows → Critical ℓ f′ m′ rows′ → m ≡ m′
+pub one-count :
+    (ℓ : Reports) → Working ℓ → (f f′ : Fraction) (m m′ : ℕ) (rows rows′ : ℕ → Row) → Critical ℓ f m rows →
+    Critical ℓ f′ m′ rows′ → m ≡ m′
 one-count ℓ working f f′ m m′ rows rows′ c c′ =
     cases m m′ (λ h. absurd (no-fewer ℓ working f f′ m m′ rows rows′ c c′ h))
     (λ h. ⊎-elim (λ (e : m′ ≡ m). sym e) (λ l. absurd (no-fewer ℓ working f′ f m′ m rows′ rows c′ c l)) (eq-or-lt-of-le h))

@@ -47,17 +47,18 @@ unfoldable pub fallen : Fraction → List Piece → Fraction → Fraction → Fr
 fallen from [] rest x = product rest (less x from)
 fallen from (p ∷ ps) rest x = plus (product (p .fall) (less (less x from) (less x (p .reach)))) (fallen (p .reach) ps rest x)
 
--- A plan's cost, operations times cost per operation, may lie below nil: it is what stands at pace nil less what it has fallen.
+-- What a plan costs, which may lie below nil: in full, as if every pace were nil, and what comes off because the cost has fallen.
 pub record Bill : Type 0 where
   pub full : Fraction
   pub off : Fraction
 
+-- The bill of a plan: operations times cost per operation, over the reports.
 abbrev pub bill : Reports → Cost → Paces → Bill
 bill ℓ c T = record {
   full = total ℓ (λ i. c .top) (ℓ .count);
   off = total ℓ (λ i. fallen (whole zero) (c .pieces) (c .rest) (T i)) (ℓ .count);
 }
 
--- One bill is no higher than another: b less b′ is at most nil, with nothing taken off left out.
+-- One bill is no higher than another: full less off is at most full′ less off′, with what comes off added on the other side.
 abbrev pub NoHigher : Bill → Bill → Type 0
 NoHigher b b′ = plus (b .full) (b′ .off) ≼ plus (b′ .full) (b .off)

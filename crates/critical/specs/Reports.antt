@@ -61,7 +61,7 @@ pub record Allowed (ℓ : Reports) (fastest : Fraction) (T : Paces) : Type 0 whe
 abbrev pub Plannable : Reports → Fraction → Type 0
 Plannable ℓ fastest = (T : Paces) × Allowed ℓ fastest T
 
--- Report i by itself is the first without a plan: reports 0 to i have no allowed plan, and i is the least such.
+-- Report i is the first without a plan: reports 0 to i by themselves have no allowed plan, and i is the least such.
 pub record FirstWithout (ℓ : Reports) (fastest : Fraction) (i : ℕ) : Type 0 where
   pub on-list : i < ℓ .count
   pub without : Plannable (firstOf (suc i) ℓ) fastest → ⊥

@@ -175,3 +175,8 @@ pub later-whole : (m n : ℕ) → later (whole m) (whole n) ≈ whole (max m n)
 later-whole m n =
     cases m n (λ h. subst (λ (x : ℕ). later (whole m) (whole n) ≈ whole x) (sym (max-high (le-of-lt h))) (later-right (whole-≼ (le-of-lt h))))
     (λ h. subst (λ (x : ℕ). later (whole m) (whole n) ≈ whole x) (sym (max-low h)) (later-left (whole-≼ h)))
+
+-- something positive more is more
+pub ≺-plus : (f g : Fraction) → 0 < g .num → f ≺ plus f g
+unfolding plus
+≺-plus f g h = omega (arith, mul-pos h (mul-pos (f .proper) (f .proper)))

@@ -5,7 +5,6 @@ use mathlib.Core.Path.{_≡_}
 use native.Mathlib.Nat.{mul-pos, le-max-left}
 
 infix 50 _≼_ _≺_ _≈_
-
 -- A fraction is two whole numbers, the lower one positive.
 pub record Fraction : Type 0 where
   pub num : ℕ
