@@ -310,8 +310,8 @@ module _ (ℓ : Reports) (f : Fraction) (m : ℕ) (rows : ℕ → Row) (ch : Cha
 
       pub chain-critical : Critical ℓ f m rows
       chain-critical = record {
-        follows = λ k h. ch k h .first;
-        holds = λ k h. ch k h .found .ordered;
+        follows = follow .follows;
+        holds = follow .holds;
         covers = all;
         works = λ k h. omega (arith, ch k h .found .works, sum-mono (ℓ .operations) (rows k .first) (suc (rows k .last)) (omega (arith, ch k h .found .ordered)));
         starts = starts-at;
