@@ -1,2 +1,3 @@
 pub mod Scale
 pub mod Order
+pub mod Product

@@ -1,0 +1,28 @@
+-- What the planner is handed (01, "Words and numbers"): readings of the buoy's clock, and the list of offsets that they stand for.
+-- Assumes nothing.
+use Prim.Native.Nat.{ℕ, _+_, _-_, _%_, _^_}
+use mathlib.Core.List.{List, map}
+use Rattle.fraction.specs.Fraction.{Fraction, over}
+use Rattle.critical.specs.Reports.{Reports, listOf}
+
+-- A reading's offset is reading minus reference, taken modulo 2^32.
+abbrev pub offset : ℕ → ℕ → ℕ
+offset reference reading = (reading + (2 ^ 32 - reference)) % 2 ^ 32
+
+-- The three lists, the reference, P and Q, and the row buffer as it is lent.
+pub record Input : Type 0 where
+  pub arrivals : List ℕ
+  pub deadlines : List ℕ
+  pub operations : List ℕ
+  pub reference : ℕ
+  pub P : ℕ
+  pub Q : ℕ
+  pub buffer : List ℕ
+
+-- The reports, by their offsets.
+abbrev pub reportsOf : Input → Reports
+reportsOf x = listOf (map (offset (x .reference)) (x .arrivals)) (map (offset (x .reference)) (x .deadlines)) (x .operations)
+
+-- The fastest pace.
+abbrev pub fastestOf : Input → Fraction
+fastestOf x = over (x .P) (x .Q)

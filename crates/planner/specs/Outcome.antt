@@ -1,0 +1,76 @@
+-- What the planner gives (01, "What the planner takes and gives").
+-- Assumes nothing.
+use Prim.Native.Nat.{ℕ, zero, suc, _+_, _*_, _≤_}
+use mathlib.Core.Path.{_≡_}
+use mathlib.Core.List.{List, _++_}
+use lib.ListN.{length, getD}
+use Rattle.fraction.specs.Fraction.{Fraction}
+use Rattle.critical.specs.Reports.{Reports}
+use Rattle.critical.specs.Rows.{Row, Critical}
+use Rattle.planner.specs.Offsets.{Input, reportsOf, fastestOf}
+use Rattle.planner.specs.Rules.{Rule, wholeRules, reportRules, Refused, Accepted}
+use Rattle.planner.specs.declared.Answer.{Answer}
+use Rattle.planner.specs.declared.Answer.the-variants.{Planned, Lengths, TooMany, ShortBuffer, BadPace, BadOperations, BadArrival, BadDeadline, ArrivalFalls, NoPlan}
+
+-- 01's number, place and block count of each answer.
+abbrev pub numberOf : Answer → ℕ
+numberOf (Planned blocks) = 0
+numberOf Lengths = 1
+numberOf TooMany = 2
+numberOf ShortBuffer = 3
+numberOf BadPace = 4
+numberOf (BadOperations i) = 5
+numberOf (BadArrival i) = 6
+numberOf (BadDeadline i) = 7
+numberOf (ArrivalFalls i) = 8
+numberOf (NoPlan i) = 9
+
+abbrev pub placeOf : Answer → ℕ
+placeOf (Planned blocks) = 0
+placeOf Lengths = 0
+placeOf TooMany = 0
+placeOf ShortBuffer = 0
+placeOf BadPace = 0
+placeOf (BadOperations i) = i
+placeOf (BadArrival i) = i
+placeOf (BadDeadline i) = i
+placeOf (ArrivalFalls i) = i
+placeOf (NoPlan i) = i
+
+abbrev pub blocksOf : Answer → ℕ
+blocksOf (Planned blocks) = blocks
+blocksOf Lengths = 0
+blocksOf TooMany = 0
+blocksOf ShortBuffer = 0
+blocksOf BadPace = 0
+blocksOf (BadOperations i) = 0
+blocksOf (BadArrival i) = 0
+blocksOf (BadDeadline i) = 0
+blocksOf (ArrivalFalls i) = 0
+blocksOf (NoPlan i) = 0
+
+-- Row k of a buffer: five numbers, from place 5k on.
+abbrev pub rowAt : List ℕ → ℕ → Row
+rowAt buffer k = record {
+  first = getD buffer (5 * k) 0;
+  last = getD buffer (5 * k + 1) 0;
+  start = getD buffer (5 * k + 2) 0;
+  end = getD buffer (5 * k + 3) 0;
+  operations = getD buffer (5 * k + 4) 0;
+}
+
+-- Rows stand at the front of the buffer in order; the numbers behind them stay as they were.
+pub record Written (ℓ : Reports) (fastest : Fraction) (before : List ℕ) (blocks : ℕ) (after : List ℕ) : Type 0 where
+  pub rows : Critical ℓ fastest blocks (rowAt after)
+  pub as-long : length after ≡ length before
+  pub behind : (i : ℕ) → 5 * blocks ≤ i → getD after i 0 ≡ getD before i 0
+
+-- What comes back, and what the buffer then holds: number 0 and place 0 with the rows written; or a refusal, with block count 0 and the buffer untouched.
+unfoldable pub Outcome : List Rule → Reports → Fraction → List ℕ → ℕ → ℕ → ℕ → List ℕ → Type 0
+Outcome rules ℓ fastest before zero place blocks after = Accepted rules × (place ≡ 0) × Written ℓ fastest before blocks after
+Outcome rules ℓ fastest before (suc number) place blocks after = Refused rules (suc number) place × (blocks ≡ 0) × (after ≡ before)
+
+-- The outcome of an input, by all the rules.
+abbrev pub PlanOutcome : Input → ℕ → ℕ → ℕ → List ℕ → Type 0
+PlanOutcome x number place blocks after =
+    Outcome (wholeRules x ++ reportRules (reportsOf x) (fastestOf x)) (reportsOf x) (fastestOf x) (x .buffer) number place blocks after
