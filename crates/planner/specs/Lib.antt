@@ -1,3 +1,4 @@
 pub mod Offsets
 pub mod Rules
 pub mod Outcome
+pub mod Inside
