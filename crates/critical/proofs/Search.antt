@@ -235,101 +235,35 @@ ahead g x s S h = cases x s (λ l. absurd (omega (arith, ap (_*_ (g .den)) (nil 
     nil : x < s → x - s ≡ 0
     nil l = omega arith
 
-module _ (ℓ : Reports) (f : Fraction) (s p k : ℕ) (st : Stretch ℓ p k) (working : 0 < ℓ .operations p) (ready : Ready ℓ f s p k) where
+-- ---- the steps of the search
+module _ (ℓ : Reports) (s p k : ℕ) where
   abbrev hi : ℕ → Fraction
   hi = high ℓ s p
 
   abbrev lo : ℕ → Fraction
   lo = low ℓ s p k
 
-  pos : (j : ℕ) → p ≤ j → 0 < span (ℓ .operations) p j
-  pos j h = span-pos (ℓ .operations) p j working h
+  -- every low so far is at most every high so far
+  low-high : (j h l : ℕ) → Scan ℓ s p k j h l → (i m : ℕ) → p ≤ i → i < j → p ≤ m → m < j → lo i ≼ hi m
+  low-high j h l sc i m pi ij pm mj = ≼-trans (sc .greatest .best i pi ij) (≼-trans (sc .apart) (sc .least .best m pm mj))
 
-  -- the fastest pace is at most every high, and every deadline is ahead
-  enough-high : (j : ℕ) → p ≤ j → j ≤ k → f ≼ hi j
-  enough-high j h l = ≽-slope s (ℓ .deadline j) (span (ℓ .operations) p j) f (pos j h) (ready j h l)
+  module _ (st : Stretch ℓ p k) where
+    floor-less : (j : ℕ) → p ≤ j → j ≤ k → floor ℓ k j - s ≤ ℓ .deadline j - s
+    floor-less j h l = omega (arith, floor-≤ ℓ p k j st h l)
 
-  deadline-ahead : (j : ℕ) → p ≤ j → j ≤ k → s ≤ ℓ .deadline j
-  deadline-ahead j h l = line-start s (ℓ .deadline j) (span (ℓ .operations) p j) f (ready j h l)
-
-  floor-less : (j : ℕ) → p ≤ j → j ≤ k → floor ℓ k j - s ≤ ℓ .deadline j - s
-  floor-less j h l = omega (arith, floor-≤ ℓ p k j st h l)
-
-  -- a slope t against the low and the high of report i
-  reaches : (i : ℕ) (t : Fraction) → p ≤ i → lo i ≼ t → whole (floor ℓ k i) ≼ line s t (span (ℓ .operations) p i)
-  reaches i t h = slope-≼ s (floor ℓ k i) (span (ℓ .operations) p i) t (pos i h)
-
-  keeps : (i : ℕ) (t : Fraction) → p ≤ i → i ≤ k → t ≼ hi i → line s t (span (ℓ .operations) p i) ≼ whole (ℓ .deadline i)
-  keeps i t h l = slope-≽ s (ℓ .deadline i) (span (ℓ .operations) p i) t (pos i h) (deadline-ahead i h l)
-
-  short-of : (x i : ℕ) (t : Fraction) → p ≤ i → t ≺ over (x - s) (span (ℓ .operations) p i) → line s t (span (ℓ .operations) p i) ≺ whole x
-  short-of x i t h = slope-≻ s x (span (ℓ .operations) p i) t (pos i h)
-
-  past : (x i : ℕ) (t : Fraction) → p ≤ i → over (x - s) (span (ℓ .operations) p i) ≺ t → whole x ≺ line s t (span (ℓ .operations) p i)
-  past x i t h = slope-≺ s x (span (ℓ .operations) p i) t (pos i h)
-
-  -- the search begins with the first report
-  pub scan-first : Scan ℓ s p k (suc p) p p
-  scan-first = record {
-    least = best-first up hi p;
-    greatest = best-first down lo p;
-    apart = over-≼ (span (ℓ .operations) p p) (floor-less p (le-refl p) (st .from));
-  }
-
-  module _ (j h l : ℕ) (sc : Scan ℓ s p k j h l) where
-    -- every low so far is at most every high so far
-    low-high : (i m : ℕ) → p ≤ i → i < j → p ≤ m → m < j → lo i ≼ hi m
-    low-high i m pi ij pm mj = ≼-trans (sc .greatest .best i pi ij) (≼-trans (sc .apart) (sc .least .best m pm mj))
-
-    -- the first case: report j's low exceeds the least high. The block ends at the last report with that high, at its deadline
-    pub finds-rise : j ≤ k → hi h ≺ lo j → Found ℓ f k (rowOf ℓ s p h (ℓ .deadline h))
-    finds-rise on x = record {
-      works = refl;
-      ordered = sc .least .from;
-      within = omega (arith, sc .least .before);
-      onward = deadline-ahead h (sc .least .from) (omega (arith, sc .least .before));
-      enough = enough-high h (sc .least .from) (omega (arith, sc .least .before));
-      above = λ i a b. reaches i (hi h) a (low-high i h a (omega (arith, sc .least .before)) (sc .least .from) (sc .least .before));
-      below = λ i a b. keeps i (hi h) a (omega (arith, sc .least .before)) (sc .least .best i a (omega (arith, sc .least .before)));
-      ending = at-deadline refl (λ _. record {
-        out = j;
-        after = sc .least .before;
-        upto = on;
-        short = λ i a b. short-of (ℓ .deadline i) i (hi h) (omega (arith, sc .least .from)) (sc .least .last i a b);
-        leaves = short-of (floor ℓ k j) j (hi h) (omega (arith, sc .least .from, sc .least .before)) x;
-      });
+    -- the search begins with the first report
+    pub scan-first : Scan ℓ s p k (suc p) p p
+    scan-first = record {
+      least = best-first up hi p;
+      greatest = best-first down lo p;
+      apart = over-≼ (span (ℓ .operations) p p) (floor-less p (le-refl p) (st .from));
     }
-
-    -- the second case: report j's high lies below the greatest low. The block ends at the last report with that low, at the next arrival
-    pub finds-fall : j ≤ k → hi j ≺ lo l → Found ℓ f k (rowOf ℓ s p l (ℓ .arrival (suc l)))
-    finds-fall on x = subst (λ (e : ℕ). Found ℓ f k (rowOf ℓ s p l e)) e (record {
-      works = refl;
-      ordered = sc .greatest .from;
-      within = omega (arith, sc .greatest .before);
-      onward = ahead (hi j) (floor ℓ k l) s (span (ℓ .operations) p l) x;
-      enough = ≼-trans (enough-high j (omega (arith, sc .greatest .from, sc .greatest .before)) on) (≺-≼ x);
-      above = λ i a b. reaches i (lo l) a (sc .greatest .best i a (omega (arith, sc .greatest .before)));
-      below = λ i a b. keeps i (lo l) a (omega (arith, sc .greatest .before)) (low-high l i (sc .greatest .from) (sc .greatest .before) a (omega (arith, sc .greatest .before)));
-      ending = at-arrival inner e (record {
-        out = j;
-        after = sc .greatest .before;
-        upto = on;
-        short = λ i a b. past (floor ℓ k i) i (lo l) (omega (arith, sc .greatest .from)) (sc .greatest .last i a b);
-        leaves = past (ℓ .deadline j) j (lo l) (omega (arith, sc .greatest .from, sc .greatest .before)) x;
-      });
-    })
-      where
-        inner : l < k
-        inner = omega (arith, sc .greatest .before)
-
-        e : floor ℓ k l ≡ ℓ .arrival (suc l)
-        e = floor-in ℓ k l inner
 
     -- neither: report j joins, and the kept indices are again the last of the best
     pub scan-more :
-        (h′ l′ : ℕ) → j ≤ k → lo j ≼ hi h → lo l ≼ hi j → Best _≺_ _≼_ hi p (suc j) h′ → Best _≻_ _≽_ lo p (suc j) l′ →
+        (j h l : ℕ) → Scan ℓ s p k j h l → (h′ l′ : ℕ) → j ≤ k → lo j ≼ hi h → lo l ≼ hi j → Best _≺_ _≼_ hi p (suc j) h′ → Best _≻_ _≽_ lo p (suc j) l′ →
         Scan ℓ s p k (suc j) h′ l′
-    scan-more h′ l′ on a b least greatest = record { least = least; greatest = greatest; apart = meet (below-or l′ (greatest .before)) (below-or h′ (least .before)) }
+    scan-more j h l sc h′ l′ on a b least greatest = record { least = least; greatest = greatest; apart = meet (below-or l′ (greatest .before)) (below-or h′ (least .before)) }
       where
         below-or : (x : ℕ) → x < suc j → (x ≡ j) ⊎ (x < j)
         below-or x m = eq-or-lt-of-le (le-of-suc-le-suc m)
@@ -341,7 +275,82 @@ module _ (ℓ : Reports) (f : Fraction) (s p k : ℕ) (st : Stretch ℓ p k) (wo
         meet (inl e) (inl e′) = rw (e, e′) (over-≼ (span (ℓ .operations) p j) (floor-less j from on))
         meet (inl e) (inr m) = rw e (≼-trans a (sc .least .best h′ (least .from) m))
         meet (inr m) (inl e) = rw e (≼-trans (sc .greatest .best l′ (greatest .from) m) b)
-        meet (inr m) (inr m′) = low-high l′ h′ (greatest .from) m (least .from) m′
+        meet (inr m) (inr m′) = low-high j h l sc l′ h′ (greatest .from) m (least .from) m′
+
+module _ (ℓ : Reports) (f : Fraction) (s p k : ℕ) (st : Stretch ℓ p k) (working : 0 < ℓ .operations p) (ready : Ready ℓ f s p k) where
+  abbrev hiᶠ : ℕ → Fraction
+  hiᶠ = high ℓ s p
+
+  abbrev loᶠ : ℕ → Fraction
+  loᶠ = low ℓ s p k
+
+  pos : (j : ℕ) → p ≤ j → 0 < span (ℓ .operations) p j
+  pos j h = span-pos (ℓ .operations) p j working h
+
+  -- the fastest pace is at most every high, and every deadline is ahead
+  enough-high : (j : ℕ) → p ≤ j → j ≤ k → f ≼ hiᶠ j
+  enough-high j h l = ≽-slope s (ℓ .deadline j) (span (ℓ .operations) p j) f (pos j h) (ready j h l)
+
+  deadline-ahead : (j : ℕ) → p ≤ j → j ≤ k → s ≤ ℓ .deadline j
+  deadline-ahead j h l = line-start s (ℓ .deadline j) (span (ℓ .operations) p j) f (ready j h l)
+
+  -- a slope t against the low and the high of report i
+  reaches : (i : ℕ) (t : Fraction) → p ≤ i → loᶠ i ≼ t → whole (floor ℓ k i) ≼ line s t (span (ℓ .operations) p i)
+  reaches i t h = slope-≼ s (floor ℓ k i) (span (ℓ .operations) p i) t (pos i h)
+
+  keeps : (i : ℕ) (t : Fraction) → p ≤ i → i ≤ k → t ≼ hiᶠ i → line s t (span (ℓ .operations) p i) ≼ whole (ℓ .deadline i)
+  keeps i t h l = slope-≽ s (ℓ .deadline i) (span (ℓ .operations) p i) t (pos i h) (deadline-ahead i h l)
+
+  short-of : (x i : ℕ) (t : Fraction) → p ≤ i → t ≺ over (x - s) (span (ℓ .operations) p i) → line s t (span (ℓ .operations) p i) ≺ whole x
+  short-of x i t h = slope-≻ s x (span (ℓ .operations) p i) t (pos i h)
+
+  past : (x i : ℕ) (t : Fraction) → p ≤ i → over (x - s) (span (ℓ .operations) p i) ≺ t → whole x ≺ line s t (span (ℓ .operations) p i)
+  past x i t h = slope-≺ s x (span (ℓ .operations) p i) t (pos i h)
+
+  module _ (j h l : ℕ) (sc : Scan ℓ s p k j h l) where
+    -- the first case: report j's low exceeds the least high. The block ends at the last report with that high, at its deadline
+    pub finds-rise : j ≤ k → hiᶠ h ≺ loᶠ j → Found ℓ f k (rowOf ℓ s p h (ℓ .deadline h))
+    finds-rise on x = record {
+      works = refl;
+      ordered = sc .least .from;
+      within = omega (arith, sc .least .before);
+      onward = deadline-ahead h (sc .least .from) (omega (arith, sc .least .before));
+      enough = enough-high h (sc .least .from) (omega (arith, sc .least .before));
+      above = λ i a b. reaches i (hiᶠ h) a (low-high ℓ s p k j h l sc i h a (omega (arith, sc .least .before)) (sc .least .from) (sc .least .before));
+      below = λ i a b. keeps i (hiᶠ h) a (omega (arith, sc .least .before)) (sc .least .best i a (omega (arith, sc .least .before)));
+      ending = at-deadline refl (λ _. record {
+        out = j;
+        after = sc .least .before;
+        upto = on;
+        short = λ i a b. short-of (ℓ .deadline i) i (hiᶠ h) (omega (arith, sc .least .from)) (sc .least .last i a b);
+        leaves = short-of (floor ℓ k j) j (hiᶠ h) (omega (arith, sc .least .from, sc .least .before)) x;
+      });
+    }
+
+    -- the second case: report j's high lies below the greatest low. The block ends at the last report with that low, at the next arrival
+    pub finds-fall : j ≤ k → hiᶠ j ≺ loᶠ l → Found ℓ f k (rowOf ℓ s p l (ℓ .arrival (suc l)))
+    finds-fall on x = subst (λ (e : ℕ). Found ℓ f k (rowOf ℓ s p l e)) e (record {
+      works = refl;
+      ordered = sc .greatest .from;
+      within = omega (arith, sc .greatest .before);
+      onward = ahead (hiᶠ j) (floor ℓ k l) s (span (ℓ .operations) p l) x;
+      enough = ≼-trans (enough-high j (omega (arith, sc .greatest .from, sc .greatest .before)) on) (≺-≼ x);
+      above = λ i a b. reaches i (loᶠ l) a (sc .greatest .best i a (omega (arith, sc .greatest .before)));
+      below = λ i a b. keeps i (loᶠ l) a (omega (arith, sc .greatest .before)) (low-high ℓ s p k j h l sc l i (sc .greatest .from) (sc .greatest .before) a (omega (arith, sc .greatest .before)));
+      ending = at-arrival inner e (record {
+        out = j;
+        after = sc .greatest .before;
+        upto = on;
+        short = λ i a b. past (floor ℓ k i) i (loᶠ l) (omega (arith, sc .greatest .from)) (sc .greatest .last i a b);
+        leaves = past (ℓ .deadline j) j (loᶠ l) (omega (arith, sc .greatest .from, sc .greatest .before)) x;
+      });
+    })
+      where
+        inner : l < k
+        inner = omega (arith, sc .greatest .before)
+
+        e : floor ℓ k l ≡ ℓ .arrival (suc l)
+        e = floor-in ℓ k l inner
 
     -- no report ends the search: the block is the whole stretch
     pub finds-whole : j ≡ suc k → Found ℓ f k (rowOf ℓ s p k (ℓ .deadline k))
@@ -351,8 +360,8 @@ module _ (ℓ : Reports) (f : Fraction) (s p k : ℕ) (st : Stretch ℓ p k) (wo
       within = le-refl k;
       onward = deadline-ahead k (st .from) (le-refl k);
       enough = enough-high k (st .from) (le-refl k);
-      above = λ i a b. reaches i (hi k) a (low-high i k a (omega arith) (st .from) (omega arith));
-      below = λ i a b. keeps i (hi k) a b (subst (λ (x : ℕ). over (x - s) (span (ℓ .operations) p k) ≼ hi i) (floor-end ℓ k k (le-refl k)) (low-high k i (st .from) (omega arith) a (omega arith)));
+      above = λ i a b. reaches i (hiᶠ k) a (low-high ℓ s p k j h l sc i k a (omega arith) (st .from) (omega arith));
+      below = λ i a b. keeps i (hiᶠ k) a b (subst (λ (x : ℕ). over (x - s) (span (ℓ .operations) p k) ≼ hiᶠ i) (floor-end ℓ k k (le-refl k)) (low-high ℓ s p k j h l sc k i (st .from) (omega arith) a (omega arith)));
       ending = at-deadline refl (λ b. absurd (omega arith));
     }
 
@@ -362,16 +371,16 @@ module _ (ℓ : Reports) (f : Fraction) (s p k : ℕ) (st : Stretch ℓ p k) (wo
   search-from (suc fuel) j h l sc on all =
       let go : (h′ l′ : ℕ) → j ≤ k → Scan ℓ s p k (suc j) h′ l′ → (q : ℕ) × (e : ℕ) × Found ℓ f k (rowOf ℓ s p q e) = λ h′ l′ m sc′. search-from fuel (suc j) h′ l′ sc′ (omega arith) (omega arith) in
       cases k j (λ m. (k, ℓ .deadline k, finds-whole j h l sc (omega arith)))
-      (λ m. split (hi h) (lo j) (λ x. (h, ℓ .deadline h, finds-rise j h l sc m x))
-      (λ a. split (hi j) (lo l) (λ x. (l, ℓ .arrival (suc l), finds-fall j h l sc m x))
-      (λ b. split (hi h) (hi j)
-      (λ y. split (lo j) (lo l) (λ z. go h l m (scan-more j h l sc h l m a b (best-keep up hi p j h (sc .least) y) (best-keep down lo p j l (sc .greatest) z)))
-      (λ z. go h j m (scan-more j h l sc h j m a b (best-keep up hi p j h (sc .least) y) (best-take down lo p j l (sc .greatest) z))))
-      (λ y. split (lo j) (lo l) (λ z. go j l m (scan-more j h l sc j l m a b (best-take up hi p j h (sc .least) y) (best-keep down lo p j l (sc .greatest) z)))
-      (λ z. go j j m (scan-more j h l sc j j m a b (best-take up hi p j h (sc .least) y) (best-take down lo p j l (sc .greatest) z)))))))
+      (λ m. split (hiᶠ h) (loᶠ j) (λ x. (h, ℓ .deadline h, finds-rise j h l sc m x))
+      (λ a. split (hiᶠ j) (loᶠ l) (λ x. (l, ℓ .arrival (suc l), finds-fall j h l sc m x))
+      (λ b. split (hiᶠ h) (hiᶠ j)
+      (λ y. split (loᶠ j) (loᶠ l) (λ z. go h l m (scan-more ℓ s p k st j h l sc h l m a b (best-keep up hiᶠ p j h (sc .least) y) (best-keep down loᶠ p j l (sc .greatest) z)))
+      (λ z. go h j m (scan-more ℓ s p k st j h l sc h j m a b (best-keep up hiᶠ p j h (sc .least) y) (best-take down loᶠ p j l (sc .greatest) z))))
+      (λ y. split (loᶠ j) (loᶠ l) (λ z. go j l m (scan-more ℓ s p k st j h l sc j l m a b (best-take up hiᶠ p j h (sc .least) y) (best-keep down loᶠ p j l (sc .greatest) z)))
+      (λ z. go j j m (scan-more ℓ s p k st j h l sc j j m a b (best-take up hiᶠ p j h (sc .least) y) (best-take down loᶠ p j l (sc .greatest) z)))))))
 
   pub search-finds : (q : ℕ) × (e : ℕ) × Found ℓ f k (rowOf ℓ s p q e)
-  search-finds = search-from (suc k) (suc p) p p scan-first (omega (arith, st .from)) (omega arith)
+  search-finds = search-from (suc k) (suc p) p p (scan-first ℓ s p k st) (omega (arith, st .from)) (omega arith)
 
 -- ---- behind a block that was found
 module _ (ℓ : Reports) (f : Fraction) (k : ℕ) (r : Row) (fd : Found ℓ f k r) (working : 0 < ℓ .operations (r .first)) where

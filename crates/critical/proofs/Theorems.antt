@@ -13,7 +13,7 @@ use Rattle.critical.specs.Rows.{Row, pace, planOf, behind, Busy, Critica
 use Rattle.critical.specs.Cost.{sumAt, slackAt, Cost, Flatter, bill, NoHigher}
 use Rattle.critical.proofs.Runs.{arrives}
 use Rattle.critical.proofs.Room.{steady, HoldsTo, Roomy, plan-holds, holds-plan, stops-first, first-holds, first-stops, runs, shorter, holds-roomy, roomy-holds}
-use Rattle.critical.proofs.Search.{Stretch, Found, Leaves, _≻_, Ready, Scan, way, floor, high, low, rowOf}
+use Rattle.critical.proofs.Search.{Stretch, Found, Best, Leaves, _≻_, _≽_, Ready, Scan, way, floor, high, low, rowOf}
 use Rattle.critical.proofs.Chain.{Chain, Link}
 use Rattle.critical.proofs.Least as Least
 use Rattle.critical.proofs.Costs as Costs
@@ -127,11 +127,15 @@ pub search-finds :
 search-finds = Search.search-finds
 
 -- Its steps: it begins with the first report, and each report either ends it, at the last report with the least high or with the greatest low, or joins.
-pub search-begins :
-    (ℓ : Reports) (fastest : Fraction) (s p k : ℕ) →
-    Stretch ℓ p k → 0 < ℓ .operations p → Ready ℓ fastest s p k →
-    Scan ℓ s p k (suc p) p p
+pub search-begins : (ℓ : Reports) (s p k : ℕ) → Stretch ℓ p k → Scan ℓ s p k (suc p) p p
 search-begins = Search.scan-first
+
+pub search-joins :
+    (ℓ : Reports) (s p k : ℕ) → Stretch ℓ p k → (j h l : ℕ) → Scan ℓ s p k j h l → (h′ l′ : ℕ) → j ≤ k →
+    low ℓ s p k j ≼ high ℓ s p h → low ℓ s p k l ≼ high ℓ s p j →
+    Best _≺_ _≼_ (high ℓ s p) p (suc j) h′ → Best _≻_ _≽_ (low ℓ s p k) p (suc j) l′ →
+    Scan ℓ s p k (suc j) h′ l′
+search-joins = Search.scan-more
 
 pub search-ends-by-rise :
     (ℓ : Reports) (fastest : Fraction) (s p k : ℕ) →

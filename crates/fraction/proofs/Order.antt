@@ -180,3 +180,12 @@ later-whole m n =
 pub ≺-plus : (f g : Fraction) → 0 < g .num → f ≺ plus f g
 unfolding plus
 ≺-plus f g h = omega (arith, mul-pos h (mul-pos (f .proper) (f .proper)))
+
+-- two quotients by cross products, as code compares them
+pub over-≺ : (m d n e : ℕ) → 0 < d → 0 < e → m * e < n * d → over m d ≺ over n e
+unfolding over
+over-≺ m d n e p q h = omega (arith, h, ap (_*_ m) (max-high q), ap (_*_ n) (max-high p))
+
+pub over-≽ : (m d n e : ℕ) → 0 < d → 0 < e → n * d ≤ m * e → over n e ≼ over m d
+unfolding over
+over-≽ m d n e p q h = omega (arith, h, ap (_*_ m) (max-high q), ap (_*_ n) (max-high p))

@@ -14,6 +14,7 @@ impl Pace {
     pub fn below(self, other: Pace) -> bool
         ensures { λ r. ⌜ r ≡ ltb (self .ticks * other .operations) (other .ticks * self .operations) ⌝ }
     {
-        (self.ticks as u64) * (other.operations as u64) < (other.ticks as u64) * (self.operations as u64)
+        (self.ticks as u64) * (other.operations as u64)
+            < (other.ticks as u64) * (self.operations as u64)
     }
 }

@@ -3,6 +3,7 @@
 // refusals and their order), Outcome (what comes back, and what the row buffer then holds).
 mod pass;
 mod rules;
+mod search;
 
 // The answer: the block count, or a refusal with the report it concerns. specs/Outcome.antt gives
 // 01's number, place and block count for each case.

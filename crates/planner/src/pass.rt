@@ -21,7 +21,13 @@ fn finish(arrival: u32, operations: u32, p: u32, q: u32, before: u64) -> u64
 }
 
 // The first report without a plan, or the list's length where there is a plan for all.
-pub fn first_without(arrivals: &[u32], deadlines: &[u32], operations: &[u32], p: u32, q: u32) -> usize
+pub fn first_without(
+    arrivals: &[u32],
+    deadlines: &[u32],
+    operations: &[u32],
+    p: u32,
+    q: u32,
+) -> usize
     requires fair { ⌜ Fair (now arrivals) (now deadlines) (now operations) ⌝ }
     requires pace { ⌜ (1 ≤ p) × (p ≤ 65535) × (1 ≤ q) × (q ≤ 65535) ⌝ }
     ensures { λ r. ⌜ PassEnds (listOf (now (arrivals .entry)) (now (deadlines .entry)) (now (operations .entry))) (over p q) r ⌝ }

@@ -115,10 +115,12 @@ loop-again c =
     let a = s .args in
     let ℓ = listOf (a .arrivals .now) (a .deadlines .now) (a .operations .now) in
     let i = l .loop .i in
-    let e = through-step ℓ (a .p) (a .q) (s .pre .1 .0) (s .pre .1 .2) i (l .loop .done) (c .before .before .finish .result) (l .loop .inv .1) (c .before .before .finish .ensures) in
-    (search needs, e,
-    omega (arith, c .before .before .finish .ensures, through-bound (getD (a .arrivals .now) i 0) (getD (a .operations .now) i 0) (a .p) (a .q) (l .loop .done) i (s .pre .0 .arrive i (search needs)) (s .pre .1 .3) (s .pre .0 .work i (search needs)) (s .pre .1 .1) (l .loop .inv .2)),
-    holds-on ℓ (a .p) (a .q) (s .pre .1 .0) (s .pre .1 .2) i (l .loop .inv .3) (omega (arith, e, c .if1 .left)))
+    let e = through-step ℓ (a .p) (a .q) (s .pre .1 .0) (s .pre .1 .2) i (l .loop .done) (c .before .before .finish .result) (l .loop .inv .1) (c .before .before .finish .ensures) in (
+      search needs,
+      e,
+      omega (arith, c .before .before .finish .ensures, through-bound (getD (a .arrivals .now) i 0) (getD (a .operations .now) i 0) (a .p) (a .q) (l .loop .done) i (s .pre .0 .arrive i (search needs)) (s .pre .1 .3) (s .pre .0 .work i (search needs)) (s .pre .1 .1) (l .loop .inv .2)),
+      holds-on ℓ (a .p) (a .q) (s .pre .1 .0) (s .pre .1 .2) i (l .loop .inv .3) (omega (arith, e, c .if1 .left)),
+    )
 
 -- src/pass.rt:24:1
 returns-2 : tie.Need-returns-2 Inv-loop μ-loop

@@ -52,7 +52,7 @@ loop-less c = search needs
 
 -- src/rules.rt:55:5
 loop-again : tie.Need-loop-again Inv-loop μ-loop
-loop-again c = 
+loop-again c =
     let l = c .before .before .before in
     let a = l .before .before .before .args in
     (search needs, search needs, map-more (offset (a .reference)) (a .readings .now) (l .loop .out) (l .loop .i) (c .offset .result) (search needs) (search needs) (c .offset .ensures) (l .loop .inv .2))
@@ -63,7 +63,7 @@ same-length c = search needs
 
 -- src/rules.rt:50:1
 returns : tie.Need-returns Inv-loop μ-loop
-returns c = 
+returns c =
     let l = c .before in
     let a = l .before .before .before .args in
     map-done (offset (a .reference)) (a .readings .now) (l .loop .out) (l .loop .i) (omega (arith, c .loop-test .left)) (l .loop .inv .2)

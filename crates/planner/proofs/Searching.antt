@@ -1,0 +1,182 @@
+-- The laws that the proofs of `search` cite: what one step of the code does to what the search keeps (critical's Search.antt), in the code's numbers.
+-- Assumes nothing.
+use Prim.Native.Nat.{ℕ, zero, suc, _+_, _*_, _-_, _≤_, _<_}
+use mathlib.Core.Path.{_≡_, refl, sym, _∙_, ap, ap₂, subst}
+use mathlib.Core.Bool.{Bool, true, false, cond}
+use mathlib.Core.List.{List}
+use mathlib.Core.Logic.{⊎-elim}
+use native.Mathlib.Omega.{arith}
+use native.Mathlib.Nat.{eq-or-lt-of-le, le-refl}
+use native.Mathlib.Numerals.{add-one}
+use lib.Dec.{leb, ltb}
+use lib.ListN.{length, getD}
+use borrow.Author.Tests.{leb-true, leb-false, ltb-true, ltb-false}
+use Rattle.fraction.specs.Fraction.{Fraction, _≼_, _≺_, over}
+use Rattle.fraction.proofs.Order.{over-≺, over-≽}
+use Rattle.critical.specs.Reports.{Reports}
+use Rattle.critical.proofs.Lines.{span, span-pos}
+use Rattle.critical.proofs.Search.{Stretch, Scan, Best, _≻_, _≽_, up, down, best-keep, best-take, floor, high, low, scan-more, finds-rise, finds-fall, finds-whole}
+use Rattle.planner.specs.Inside.{Joins, FloorIs, MarkIs, KeptIn, KeptIs, Weighed, EndIs}
+use Rattle.planner.specs.declared.search.Mark.{Mark}
+use Rattle.planner.specs.declared.search.Kept.{Kept}
+use Rattle.planner.specs.declared.search.End.{End}
+
+-- ---- whether two reports join, and the floor of a report
+module _ (xs ys : List ℕ) (j : ℕ) where
+  pub joins-yes : j + 1 < length xs → leb (getD xs (j + 1) 0) (getD ys j 0) ≡ true → Joins xs ys j
+  joins-yes h e = record {
+    on = omega arith;
+    meets = subst (λ (k : ℕ). getD xs k 0 ≤ getD ys j 0) (add-one j) (leb-true _ _ e);
+  }
+
+  pub joins-late : leb (getD xs (j + 1) 0) (getD ys j 0) ≡ false → Joins xs ys j → ⊥
+  joins-late e k = omega (arith, subst (λ (k : ℕ). getD ys j 0 < getD xs k 0) (add-one j) (leb-false _ _ e), k .meets)
+
+  pub joins-end : length xs ≤ j + 1 → Joins xs ys j → ⊥
+  joins-end h k = omega (arith, k .on)
+
+  pub floor-joined : Joins xs ys j → FloorIs xs ys j (getD xs (j + 1) 0)
+  floor-joined k = record { joined = λ _. ap (λ (i : ℕ). getD xs i 0) (add-one j); apart = λ n. absurd (n k) }
+
+  pub floor-apart : (Joins xs ys j → ⊥) → FloorIs xs ys j (getD ys j 0)
+  floor-apart n = record { joined = λ k. absurd (n k); apart = λ _. refl }
+
+-- ---- marks
+-- a mark's pace
+abbrev paceOf : Mark → Fraction
+paceOf m = over (m .ticks) (m .operations)
+
+module _ (ℓ : Reports) (s p : ℕ) (some : 0 < ℓ .operations p) where
+  mark-pace : (time : ℕ → ℕ) (m : Mark) → MarkIs ℓ s p time m → paceOf m ≡ over (time (m .at) - s) (span (ℓ .operations) p (m .at))
+  mark-pace time m i = ap₂ over (i .ticks-are) (i .operations-are)
+
+  mark-works : (time : ℕ → ℕ) (m : Mark) → MarkIs ℓ s p time m → p ≤ m .at → 0 < m .operations
+  mark-works time m i h = subst (λ (n : ℕ). 0 < n) (sym (i .operations-are)) (span-pos (ℓ .operations) p (m .at) some h)
+
+  -- what a comparison of two marks says
+  module _ (x y : ℕ → ℕ) (a b : Mark) (ia : MarkIs ℓ s p x a) (ib : MarkIs ℓ s p y b) (fa : p ≤ a .at) (fb : p ≤ b .at) where
+    is-below : ltb (a .ticks * b .operations) (b .ticks * a .operations) ≡ true → over (x (a .at) - s) (span (ℓ .operations) p (a .at)) ≺ over (y (b .at) - s) (span (ℓ .operations) p (b .at))
+    is-below e =
+        rw (← mark-pace x a ia, ← mark-pace y b ib)
+        (over-≺ (a .ticks) (a .operations) (b .ticks) (b .operations) (mark-works x a ia fa) (mark-works y b ib fb) (ltb-true _ _ e))
+
+    not-below : ltb (a .ticks * b .operations) (b .ticks * a .operations) ≡ false → over (y (b .at) - s) (span (ℓ .operations) p (b .at)) ≼ over (x (a .at) - s) (span (ℓ .operations) p (a .at))
+    not-below e =
+        rw (← mark-pace x a ia, ← mark-pace y b ib)
+        (over-≽ (a .ticks) (a .operations) (b .ticks) (b .operations) (mark-works x a ia fa) (mark-works y b ib fb) (ltb-false _ _ e))
+
+  -- ---- report kept.next, with its marks
+  module _ (kept : Kept) (hj lj : Mark) (wd : Weighed ℓ s p kept hj lj) where
+    abbrev k : ℕ
+    k = wd .k
+
+    abbrev j : ℕ
+    j = kept .next
+
+    ki : KeptIn ℓ s p (wd .k) kept
+    ki = wd .kept-in
+
+    sc : Scan ℓ s p (wd .k) (kept .next) (kept .high .at) (kept .low .at)
+    sc = wd .kept-in .scan
+
+    from-h : p ≤ kept .high .at
+    from-h = sc .least .from
+
+    from-l : p ≤ kept .low .at
+    from-l = sc .greatest .from
+
+    from-j : p ≤ kept .next
+    from-j = omega (arith, sc .least .from, sc .least .before)
+
+    from-hj : p ≤ hj .at
+    from-hj = omega (arith, from-j, wd .high-at)
+
+    from-lj : p ≤ lj .at
+    from-lj = omega (arith, from-j, wd .low-at)
+
+    pub ends-by-rise : ltb (kept .high .ticks * lj .operations) (lj .ticks * kept .high .operations) ≡ true → EndIs ℓ s p (record { last = kept .high .at; time = ℓ .deadline (kept .high .at); operations = kept .high .operations })
+    ends-by-rise e = record {
+      k = wd .k;
+      stretch = ki .stretch;
+      on = omega (arith, sc .least .before, wd .on);
+      from = from-h;
+      operations-are = ki .high-is .operations-are;
+      found = λ f rd. finds-rise ℓ f s p (wd .k) (ki .stretch) some rd (kept .next) (kept .high .at) (kept .low .at) sc (wd .on)
+        (subst (λ (i : ℕ). high ℓ s p (kept .high .at) ≺ low ℓ s p (wd .k) i) (wd .low-at) (is-below (ℓ .deadline) (floor ℓ (wd .k)) (kept .high) lj (ki .high-is) (wd .low-is) from-h from-lj e));
+    }
+
+    pub ends-by-fall : ltb (hj .ticks * kept .low .operations) (kept .low .ticks * hj .operations) ≡ true → EndIs ℓ s p (record { last = kept .low .at; time = ℓ .arrival (kept .low .at + 1); operations = kept .low .operations })
+    ends-by-fall e = rw (add-one (kept .low .at)) (record {
+      k = wd .k;
+      stretch = ki .stretch;
+      on = omega (arith, sc .greatest .before, wd .on);
+      from = from-l;
+      operations-are = ki .low-is .operations-are;
+      found = λ f rd. finds-fall ℓ f s p (wd .k) (ki .stretch) some rd (kept .next) (kept .high .at) (kept .low .at) sc (wd .on)
+        (subst (λ (i : ℕ). high ℓ s p i ≺ low ℓ s p (wd .k) (kept .low .at)) (wd .high-at) (is-below (ℓ .deadline) (floor ℓ (wd .k)) hj (kept .low) (wd .high-is) (ki .low-is) from-hj from-l e));
+    })
+
+    -- the last of the best, after the choice that the code makes
+    next-high : (b : Bool) → ltb (kept .high .ticks * hj .operations) (hj .ticks * kept .high .operations) ≡ b → Best _≺_ _≼_ (high ℓ s p) p (suc (kept .next)) ((cond b (kept .high) hj) .at)
+    next-high true e =
+        best-keep up (high ℓ s p) p (kept .next) (kept .high .at) (sc .least)
+        (subst (λ (i : ℕ). high ℓ s p (kept .high .at) ≺ high ℓ s p i) (wd .high-at) (is-below (ℓ .deadline) (ℓ .deadline) (kept .high) hj (ki .high-is) (wd .high-is) from-h from-hj e))
+    next-high false e =
+        subst (Best _≺_ _≼_ (high ℓ s p) p (suc (kept .next))) (sym (wd .high-at))
+        (best-take up (high ℓ s p) p (kept .next) (kept .high .at) (sc .least)
+        (subst (λ (i : ℕ). high ℓ s p i ≼ high ℓ s p (kept .high .at)) (wd .high-at) (not-below (ℓ .deadline) (ℓ .deadline) (kept .high) hj (ki .high-is) (wd .high-is) from-h from-hj e)))
+
+    next-low : (b : Bool) → ltb (lj .ticks * kept .low .operations) (kept .low .ticks * lj .operations) ≡ b → Best _≻_ _≽_ (low ℓ s p (wd .k)) p (suc (kept .next)) ((cond b (kept .low) lj) .at)
+    next-low true e =
+        best-keep down (low ℓ s p (wd .k)) p (kept .next) (kept .low .at) (sc .greatest)
+        (subst (λ (i : ℕ). low ℓ s p (wd .k) i ≺ low ℓ s p (wd .k) (kept .low .at)) (wd .low-at) (is-below (floor ℓ (wd .k)) (floor ℓ (wd .k)) lj (kept .low) (wd .low-is) (ki .low-is) from-lj from-l e))
+    next-low false e =
+        subst (Best _≻_ _≽_ (low ℓ s p (wd .k)) p (suc (kept .next))) (sym (wd .low-at))
+        (best-take down (low ℓ s p (wd .k)) p (kept .next) (kept .low .at) (sc .greatest)
+        (subst (λ (i : ℕ). low ℓ s p (wd .k) (kept .low .at) ≼ low ℓ s p (wd .k) i) (wd .low-at) (not-below (floor ℓ (wd .k)) (floor ℓ (wd .k)) lj (kept .low) (wd .low-is) (ki .low-is) from-lj from-l e)))
+
+    either : (time : ℕ → ℕ) (b : Bool) (m n : Mark) → MarkIs ℓ s p time m → MarkIs ℓ s p time n → MarkIs ℓ s p time (cond b m n)
+    either time true m n i o = i
+    either time false m n i o = o
+
+    abbrev keep-high : Bool
+    keep-high = ltb (kept .high .ticks * hj .operations) (hj .ticks * kept .high .operations)
+
+    abbrev keep-low : Bool
+    keep-low = ltb (lj .ticks * kept .low .operations) (kept .low .ticks * lj .operations)
+
+    pub goes-on :
+        ltb (kept .high .ticks * lj .operations) (lj .ticks * kept .high .operations) ≡ false →
+        ltb (hj .ticks * kept .low .operations) (kept .low .ticks * hj .operations) ≡ false →
+        KeptIs ℓ s p (record {
+          next = kept .next + 1;
+          sum = hj .operations;
+          high = cond (ltb (kept .high .ticks * hj .operations) (hj .ticks * kept .high .operations)) (kept .high) hj;
+          low = cond (ltb (lj .ticks * kept .low .operations) (kept .low .ticks * lj .operations)) (kept .low) lj;
+        })
+    goes-on x y = rw (add-one (kept .next)) (record {
+      k = wd .k;
+      kept-in = record {
+        stretch = ki .stretch;
+        scan = scan-more ℓ s p (wd .k) (ki .stretch) (kept .next) (kept .high .at) (kept .low .at) sc _ _ (wd .on)
+          (subst (λ (i : ℕ). low ℓ s p (wd .k) i ≼ high ℓ s p (kept .high .at)) (wd .low-at) (not-below (ℓ .deadline) (floor ℓ (wd .k)) (kept .high) lj (ki .high-is) (wd .low-is) from-h from-lj x))
+          (subst (λ (i : ℕ). low ℓ s p (wd .k) (kept .low .at) ≼ high ℓ s p i) (wd .high-at) (not-below (ℓ .deadline) (floor ℓ (wd .k)) hj (kept .low) (wd .high-is) (ki .low-is) from-hj from-l y))
+          (next-high keep-high refl) (next-low keep-low refl);
+        high-is = either (ℓ .deadline) keep-high (kept .high) hj (ki .high-is) (wd .high-is);
+        low-is = either (floor ℓ (wd .k)) keep-low (kept .low) lj (ki .low-is) (wd .low-is);
+        sum-is = wd .high-is .operations-are ∙ ap (span (ℓ .operations) p) (wd .high-at ∙ before-next);
+        upto = omega (arith, wd .on);
+      };
+    })
+      where
+        before-next : kept .next ≡ suc (kept .next) - 1
+        before-next = omega arith
+
+    -- the same for the marks that the code has chosen
+    pub goes-on-with :
+        (b₁ b₂ : Bool) (h′ l′ : Mark) →
+        ltb (kept .high .ticks * lj .operations) (lj .ticks * kept .high .operations) ≡ false →
+        ltb (hj .ticks * kept .low .operations) (kept .low .ticks * hj .operations) ≡ false →
+        b₁ ≡ keep-high → b₂ ≡ keep-low → h′ ≡ cond b₁ (kept .high) hj → l′ ≡ cond b₂ (kept .low) lj →
+        KeptIs ℓ s p (record { next = kept .next + 1; sum = hj .operations; high = h′; low = l′ })
+    goes-on-with b₁ b₂ h′ l′ x y e₁ e₂ f g = rw (f, g, e₁, e₂) (goes-on x y)
