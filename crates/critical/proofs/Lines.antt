@@ -24,6 +24,12 @@ sum-mono w i zero h = ap-le (omega arith)
 sum-mono w i (suc j) h =
     ⊎-elim (λ (e : i ≡ suc j). rw e (le-refl (sum w (suc j)))) (λ l. omega (arith, sum-mono w i j (le-of-suc-le-suc l))) (eq-or-lt-of-le h)
 
+-- terms of at most B give a sum of at most B times their number
+pub sum-bound : (w : ℕ → ℕ) (B n : ℕ) → ((i : ℕ) → i < n → w i ≤ B) → sum w n ≤ B * n
+unfolding sum
+sum-bound w B zero h = omega arith
+sum-bound w B (suc n) h = omega (arith, sum-bound w B n (λ i k. h i (omega arith)), h n (le-refl (suc n)))
+
 module _ (w : ℕ → ℕ) (p : ℕ) where
   pub span-one : span w p p ≡ w p
   unfolding sum

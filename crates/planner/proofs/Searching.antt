@@ -6,17 +6,17 @@ use mathlib.Core.Bool.{Bool, true, false, cond}
 use mathlib.Core.List.{List}
 use mathlib.Core.Logic.{⊎-elim}
 use native.Mathlib.Omega.{arith}
-use native.Mathlib.Nat.{eq-or-lt-of-le, le-refl}
+use native.Mathlib.Nat.{eq-or-lt-of-le, le-of-suc-le-suc, le-refl}
 use native.Mathlib.Numerals.{add-one}
 use lib.Dec.{leb, ltb}
 use lib.ListN.{length, getD}
 use borrow.Author.Tests.{leb-true, leb-false, ltb-true, ltb-false}
 use Rattle.fraction.specs.Fraction.{Fraction, _≼_, _≺_, over}
 use Rattle.fraction.proofs.Order.{over-≺, over-≽}
-use Rattle.critical.specs.Reports.{Reports}
-use Rattle.critical.proofs.Lines.{span, span-pos}
-use Rattle.critical.proofs.Search.{Stretch, Scan, Best, _≻_, _≽_, up, down, best-keep, best-take, floor, high, low, scan-more, finds-rise, finds-fall, finds-whole}
-use Rattle.planner.specs.Inside.{Joins, FloorIs, MarkIs, KeptIn, KeptIs, Weighed, EndIs}
+use Rattle.critical.specs.Reports.{Reports, listOf}
+use Rattle.critical.proofs.Lines.{span, span-one, span-more, span-pos, sum-bound}
+use Rattle.critical.proofs.Search.{Stretch, Scan, Best, _≻_, _≽_, up, down, best-keep, best-take, floor, floor-in, floor-end, stretch-from, high, low, scan-first, scan-more, finds-rise, finds-fall, finds-whole}
+use Rattle.planner.specs.Inside.{Fair, Joins, FloorIs, MarkIs, KeptIn, KeptIs, Weighed, EndIs}
 use Rattle.planner.specs.declared.search.Mark.{Mark}
 use Rattle.planner.specs.declared.search.Kept.{Kept}
 use Rattle.planner.specs.declared.search.End.{End}
@@ -180,3 +180,116 @@ module _ (ℓ : Reports) (s p : ℕ) (some : 0 < ℓ .operations p) where
         b₁ ≡ keep-high → b₂ ≡ keep-low → h′ ≡ cond b₁ (kept .high) hj → l′ ≡ cond b₂ (kept .low) lj →
         KeptIs ℓ s p (record { next = kept .next + 1; sum = hj .operations; high = h′; low = l′ })
     goes-on-with b₁ b₂ h′ l′ x y e₁ e₂ f g = rw (f, g, e₁, e₂) (goes-on x y)
+
+-- ---- the stretch, seen from the lists
+module _ (xs ys ws : List ℕ) (fair : Fair xs ys ws) where
+  abbrev ℓ : Reports
+  ℓ = listOf xs ys ws
+
+  -- the operations of a run are few enough for 32 bits
+  pub span-small : (p j : ℕ) → j < length xs → span (ℓ .operations) p j ≤ 65535 * suc j
+  span-small p j h = omega (arith, sum-bound (ℓ .operations) 65535 (suc j) (λ i k. fair .work i (omega arith)))
+
+  pub works-at : (p k : ℕ) → Stretch ℓ p k → 0 < ℓ .operations p
+  works-at p k st = fair .some p (omega (arith, st .from, st .on-list))
+
+  -- inside a stretch two reports join, at its end they do not
+  joins-inside : (p k j : ℕ) → Stretch ℓ p k → p ≤ j → j < k → Joins xs ys j
+  joins-inside p k j st h l = record { on = omega (arith, st .on-list); meets = st .joined j h l }
+
+  joins-not : (p k : ℕ) → Stretch ℓ p k → Joins xs ys k → ⊥
+  joins-not p k st m = omega (arith, st .closed (m .on), m .meets)
+
+  -- the floor that the code finds is the stretch's
+  pub floor-is : (p k j r : ℕ) → Stretch ℓ p k → p ≤ j → j ≤ k → FloorIs xs ys j r → r ≡ floor ℓ k j
+  floor-is p k j r st h l f =
+      ⊎-elim (λ (e : j ≡ k). f .apart (λ m. joins-not p k st (subst (Joins xs ys) e m)) ∙ sym (floor-end ℓ k j (omega arith)))
+      (λ m. f .joined (joins-inside p k j st h m) ∙ sym (floor-in ℓ k j m)) (eq-or-lt-of-le l)
+
+  module _ (s p : ℕ) (kept : Kept) where
+    -- the reports taken so far, seen from the last of them
+    last-taken : (k : ℕ) → KeptIn ℓ s p k kept → suc (kept .next - 1) ≡ kept .next
+    last-taken k ki = omega (arith, ki .scan .least .before)
+
+    -- where the last report taken joins the next, the next is still of the stretch
+    pub still : (k : ℕ) → KeptIn ℓ s p k kept → Joins xs ys (kept .next - 1) → kept .next ≤ k
+    still k ki m =
+        ⊎-elim (λ (e : kept .next ≡ suc k). absurd (joins-not p k (ki .stretch) (subst (Joins xs ys) (omega (arith, e)) m))) (λ l. le-of-suc-le-suc l)
+        (eq-or-lt-of-le (ki .upto))
+
+    -- and where it does not, the stretch ends
+    pub ends-whole : (ki : KeptIs ℓ s p kept) → (Joins xs ys (kept .next - 1) → ⊥) → EndIs ℓ s p (record { last = kept .next - 1; time = ℓ .deadline (kept .next - 1); operations = kept .sum })
+    ends-whole ks apart =
+        let k : ℕ = ks .k in
+        let ki : KeptIn ℓ s p k kept = ks .kept-in in
+        let all : kept .next ≡ suc k = ⊎-elim (λ (e : kept .next ≡ suc k). e) (λ l. absurd (apart (joins-inside p k (kept .next - 1) (ki .stretch) (omega (arith, ki .scan .least .from, ki .scan .least .before)) (omega (arith, l, ki .scan .least .before))))) (eq-or-lt-of-le (ki .upto)) in
+        let last : kept .next - 1 ≡ k = omega (arith, all) in
+        record {
+          k = k;
+          stretch = ki .stretch;
+          on = omega (arith, last);
+          from = omega (arith, last, ki .stretch .from);
+          operations-are = ki .sum-is;
+          found = λ f rd. rw last (finds-whole ℓ f s p k (ki .stretch) (works-at p k (ki .stretch)) rd (kept .next) (kept .high .at) (kept .low .at) (ki .scan) all);
+        }
+
+    -- with the next report the operations still fit
+    pub sum-small : KeptIs ℓ s p kept → Joins xs ys (kept .next - 1) → kept .sum + ℓ .operations (kept .next) ≤ 67107840
+    sum-small ks m =
+        let ki : KeptIn ℓ s p (ks .k) kept = ks .kept-in in
+        let on : kept .next ≤ ks .k = still (ks .k) ki m in
+        let in-list : kept .next < length xs = omega (arith, on, ki .stretch .on-list) in
+        omega (arith, ki .sum-is, span-small p (kept .next - 1) (omega arith), last-taken (ks .k) ki, fair .work (kept .next) in-list, fair .few, in-list)
+
+    -- the marks of the next report
+    pub weighed :
+        (ks : KeptIs ℓ s p kept) → Joins xs ys (kept .next - 1) → (hj lj : Mark) (fl sum : ℕ) →
+        sum ≡ kept .sum + ℓ .operations (kept .next) → FloorIs xs ys (kept .next) fl →
+        (hj .at ≡ kept .next) × (hj .ticks ≡ ℓ .deadline (kept .next) - s) × (hj .operations ≡ sum) →
+        (lj .at ≡ kept .next) × (lj .ticks ≡ fl - s) × (lj .operations ≡ sum) →
+        Weighed ℓ s p kept hj lj
+    weighed ks m hj lj fl sum e f h l =
+        let k : ℕ = ks .k in
+        let ki : KeptIn ℓ s p k kept = ks .kept-in in
+        let on : kept .next ≤ k = still k ki m in
+        let from : p ≤ kept .next = omega (arith, ki .scan .least .from, ki .scan .least .before) in
+        let total : sum ≡ span (ℓ .operations) p (kept .next) = e ∙ ap (λ (x : ℕ). x + ℓ .operations (kept .next)) (ki .sum-is) ∙ joined-sum k ki in
+        record {
+          k = k;
+          kept-in = ki;
+          on = on;
+          high-at = h .0;
+          low-at = l .0;
+          high-is = record { ticks-are = h .1 ∙ ap (λ (i : ℕ). ℓ .deadline i - s) (sym (h .0)); operations-are = h .2 ∙ total ∙ ap (span (ℓ .operations) p) (sym (h .0)) };
+          low-is = record { ticks-are = l .1 ∙ ap (λ (x : ℕ). x - s) (floor-is p k (kept .next) fl (ki .stretch) from on f) ∙ ap (λ (i : ℕ). floor ℓ k i - s) (sym (l .0)); operations-are = l .2 ∙ total ∙ ap (span (ℓ .operations) p) (sym (l .0)) };
+        }
+      where
+        joined-sum : (k : ℕ) → KeptIn ℓ s p k kept → span (ℓ .operations) p (kept .next - 1) + ℓ .operations (kept .next) ≡ span (ℓ .operations) p (kept .next)
+        joined-sum k ki =
+            subst (λ (n : ℕ). span (ℓ .operations) p (kept .next - 1) + ℓ .operations n ≡ span (ℓ .operations) p n) (last-taken k ki)
+            (sym (span-more (ℓ .operations) p (kept .next - 1) (omega (arith, ki .scan .least .from, ki .scan .least .before))))
+
+  -- the search begins
+  pub begins-kept :
+      (s p : ℕ) (hj lj : Mark) (fl sum : ℕ) → p < length xs → sum ≡ ℓ .operations p → FloorIs xs ys p fl →
+      (hj .at ≡ p) × (hj .ticks ≡ ℓ .deadline p - s) × (hj .operations ≡ sum) →
+      (lj .at ≡ p) × (lj .ticks ≡ fl - s) × (lj .operations ≡ sum) →
+      KeptIs ℓ s p (record { next = p + 1; sum = sum; high = hj; low = lj })
+  begins-kept s p hj lj fl sum on e f h l =
+      let st = stretch-from ℓ p on in
+      let k : ℕ = st .0 in
+      let total : sum ≡ span (ℓ .operations) p p = e ∙ sym (span-one (ℓ .operations) p) in
+      rw (add-one p) (record {
+        k = k;
+        kept-in = record {
+          stretch = st .1;
+          scan = subst (λ (i : ℕ). Scan ℓ s p k (suc p) i (lj .at)) (sym (h .0)) (subst (λ (i : ℕ). Scan ℓ s p k (suc p) p i) (sym (l .0)) (scan-first ℓ s p k (st .1)));
+          high-is = record { ticks-are = h .1 ∙ ap (λ (i : ℕ). ℓ .deadline i - s) (sym (h .0)); operations-are = h .2 ∙ total ∙ ap (span (ℓ .operations) p) (sym (h .0)) };
+          low-is = record { ticks-are = l .1 ∙ ap (λ (x : ℕ). x - s) (floor-is p k p fl (st .1) (le-refl p) (st .1 .from) f) ∙ ap (λ (i : ℕ). floor ℓ k i - s) (sym (l .0)); operations-are = l .2 ∙ total ∙ ap (span (ℓ .operations) p) (sym (l .0)) };
+          sum-is = total ∙ ap (span (ℓ .operations) p) before-next;
+          upto = omega (arith, st .1 .from);
+        };
+      })
+    where
+      before-next : p ≡ suc p - 1
+      before-next = omega arith

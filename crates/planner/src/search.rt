@@ -3,11 +3,11 @@
 use fraction::Pace;
 ghost use mathlib.Core.Path.{_≡_};
 ghost use mathlib.Core.Bool.{cond, true, false};
-ghost use Prim.Native.Nat.{_*_, _-_, _<_};
+ghost use Prim.Native.Nat.{_+_, _*_, _-_, _<_};
 ghost use lib.Dec.{ltb};
 ghost use lib.ListN.{length};
 ghost use Rattle.critical.specs.Reports.{listOf};
-ghost use Rattle.planner.specs.Inside.{Fair, FloorIs, Joins, StepIs, Weighed};
+ghost use Rattle.planner.specs.Inside.{Fair, FloorIs, Joins, KeptIs, StepIs, Weighed};
 
 // A high or a low: the report, and the pace from the block's start to a time of that report.
 pub struct Mark {
@@ -138,4 +138,54 @@ fn judge(arrivals: &[u32], deadlines: &[u32], operations: &[u32], first: usize, 
         high: next_high,
         low: next_low,
     })
+}
+
+// Report kept.next, which is still of the stretch.
+fn weigh(arrivals: &[u32], deadlines: &[u32], operations: &[u32], first: usize, from: u32, kept: Kept) -> Step
+    requires fair { ⌜ Fair (now arrivals) (now deadlines) (now operations) ⌝ }
+    requires kept { ⌜ KeptIs (listOf (now arrivals) (now deadlines) (now operations)) from first kept ⌝ }
+    requires joined { ⌜ Joins (now arrivals) (now deadlines) (kept .next - 1) ⌝ }
+    ensures { λ r. ⌜ StepIs (listOf (now (arrivals .entry)) (now (deadlines .entry)) (now (operations .entry))) from first (kept .next) r ⌝ }
+{
+    let j = kept.next;
+    let sum = kept.sum + operations[j];
+    let high = pace_to(j, deadlines[j], from, sum);
+    let low = pace_to(j, floor(arrivals, deadlines, j), from, sum);
+    judge(arrivals, deadlines, operations, first, from, kept, high, low)
+}
+
+// What the next report does to the search: the stretch's end ends it too.
+pub fn take(arrivals: &[u32], deadlines: &[u32], operations: &[u32], first: usize, from: u32, kept: Kept) -> Step
+    requires fair { ⌜ Fair (now arrivals) (now deadlines) (now operations) ⌝ }
+    requires kept { ⌜ KeptIs (listOf (now arrivals) (now deadlines) (now operations)) from first kept ⌝ }
+    ensures { λ r. ⌜ StepIs (listOf (now (arrivals .entry)) (now (deadlines .entry)) (now (operations .entry))) from first (kept .next) r ⌝ }
+{
+    let last = kept.next - 1;
+    if joins(arrivals, deadlines, last) {
+        weigh(arrivals, deadlines, operations, first, from, kept)
+    } else {
+        Step::Ends(End {
+            last,
+            time: deadlines[last],
+            operations: kept.sum,
+        })
+    }
+}
+
+// The search begins with the block's first report.
+pub fn begin(arrivals: &[u32], deadlines: &[u32], operations: &[u32], first: usize, from: u32) -> Kept
+    requires fair { ⌜ Fair (now arrivals) (now deadlines) (now operations) ⌝ }
+    requires on { ⌜ first < length (now arrivals) ⌝ }
+    ensures { λ r. ⌜ KeptIs (listOf (now (arrivals .entry)) (now (deadlines .entry)) (now (operations .entry))) from first r ⌝ }
+    ensures next { λ r. ⌜ r .next ≡ first + 1 ⌝ }
+{
+    let sum = operations[first];
+    let high = pace_to(first, deadlines[first], from, sum);
+    let low = pace_to(first, floor(arrivals, deadlines, first), from, sum);
+    Kept {
+        next: first + 1,
+        sum,
+        high,
+        low,
+    }
 }
