@@ -1,3 +1,5 @@
 pub mod Laws
 pub mod Through
 pub mod Searching
+pub mod Writing
+pub mod Building

@@ -16,10 +16,12 @@ use Rattle.fraction.proofs.Order.{over-≺, over-≽}
 use Rattle.critical.specs.Reports.{Reports, listOf}
 use Rattle.critical.proofs.Lines.{span, span-one, span-more, span-pos, sum-bound}
 use Rattle.critical.proofs.Search.{Stretch, Scan, Best, _≻_, _≽_, up, down, best-keep, best-take, floor, floor-in, floor-end, stretch-from, high, low, scan-first, scan-more, finds-rise, finds-fall, finds-whole}
-use Rattle.planner.specs.Inside.{Fair, Joins, FloorIs, MarkIs, KeptIn, KeptIs, Weighed, EndIs}
+use Rattle.planner.specs.Inside.{Fair, Joins, FloorIs, MarkIs, KeptIn, KeptIs, Weighed, EndIs, StepIs}
 use Rattle.planner.specs.declared.search.Mark.{Mark}
 use Rattle.planner.specs.declared.search.Kept.{Kept}
 use Rattle.planner.specs.declared.search.End.{End}
+use Rattle.planner.specs.declared.search.Step.{Step}
+use Rattle.planner.specs.declared.search.Step.the-variants.{Ends, Goes}
 
 -- ---- whether two reports join, and the floor of a report
 module _ (xs ys : List ℕ) (j : ℕ) where
@@ -102,7 +104,7 @@ module _ (ℓ : Reports) (s p : ℕ) (some : 0 < ℓ .operations p) where
       from = from-h;
       operations-are = ki .high-is .operations-are;
       found = λ f rd. finds-rise ℓ f s p (wd .k) (ki .stretch) some rd (kept .next) (kept .high .at) (kept .low .at) sc (wd .on)
-        (subst (λ (i : ℕ). high ℓ s p (kept .high .at) ≺ low ℓ s p (wd .k) i) (wd .low-at) (is-below (ℓ .deadline) (floor ℓ (wd .k)) (kept .high) lj (ki .high-is) (wd .low-is) from-h from-lj e));
+          (subst (λ (i : ℕ). high ℓ s p (kept .high .at) ≺ low ℓ s p (wd .k) i) (wd .low-at) (is-below (ℓ .deadline) (floor ℓ (wd .k)) (kept .high) lj (ki .high-is) (wd .low-is) from-h from-lj e));
     }
 
     pub ends-by-fall : ltb (hj .ticks * kept .low .operations) (kept .low .ticks * hj .operations) ≡ true → EndIs ℓ s p (record { last = kept .low .at; time = ℓ .arrival (kept .low .at + 1); operations = kept .low .operations })
@@ -113,7 +115,7 @@ module _ (ℓ : Reports) (s p : ℕ) (some : 0 < ℓ .operations p) where
       from = from-l;
       operations-are = ki .low-is .operations-are;
       found = λ f rd. finds-fall ℓ f s p (wd .k) (ki .stretch) some rd (kept .next) (kept .high .at) (kept .low .at) sc (wd .on)
-        (subst (λ (i : ℕ). high ℓ s p i ≺ low ℓ s p (wd .k) (kept .low .at)) (wd .high-at) (is-below (ℓ .deadline) (floor ℓ (wd .k)) hj (kept .low) (wd .high-is) (ki .low-is) from-hj from-l e));
+          (subst (λ (i : ℕ). high ℓ s p i ≺ low ℓ s p (wd .k) (kept .low .at)) (wd .high-at) (is-below (ℓ .deadline) (floor ℓ (wd .k)) hj (kept .low) (wd .high-is) (ki .low-is) from-hj from-l e));
     })
 
     -- the last of the best, after the choice that the code makes
@@ -159,9 +161,9 @@ module _ (ℓ : Reports) (s p : ℕ) (some : 0 < ℓ .operations p) where
       kept-in = record {
         stretch = ki .stretch;
         scan = scan-more ℓ s p (wd .k) (ki .stretch) (kept .next) (kept .high .at) (kept .low .at) sc _ _ (wd .on)
-          (subst (λ (i : ℕ). low ℓ s p (wd .k) i ≼ high ℓ s p (kept .high .at)) (wd .low-at) (not-below (ℓ .deadline) (floor ℓ (wd .k)) (kept .high) lj (ki .high-is) (wd .low-is) from-h from-lj x))
-          (subst (λ (i : ℕ). low ℓ s p (wd .k) (kept .low .at) ≼ high ℓ s p i) (wd .high-at) (not-below (ℓ .deadline) (floor ℓ (wd .k)) hj (kept .low) (wd .high-is) (ki .low-is) from-hj from-l y))
-          (next-high keep-high refl) (next-low keep-low refl);
+            (subst (λ (i : ℕ). low ℓ s p (wd .k) i ≼ high ℓ s p (kept .high .at)) (wd .low-at) (not-below (ℓ .deadline) (floor ℓ (wd .k)) (kept .high) lj (ki .high-is) (wd .low-is) from-h from-lj x))
+            (subst (λ (i : ℕ). low ℓ s p (wd .k) (kept .low .at) ≼ high ℓ s p i) (wd .high-at) (not-below (ℓ .deadline) (floor ℓ (wd .k)) hj (kept .low) (wd .high-is) (ki .low-is) from-hj from-l y))
+            (next-high keep-high refl) (next-low keep-low refl);
         high-is = either (ℓ .deadline) keep-high (kept .high) hj (ki .high-is) (wd .high-is);
         low-is = either (floor ℓ (wd .k)) keep-low (kept .low) lj (ki .low-is) (wd .low-is);
         sum-is = wd .high-is .operations-are ∙ ap (span (ℓ .operations) p) (wd .high-at ∙ before-next);
@@ -293,3 +295,13 @@ module _ (xs ys ws : List ℕ) (fair : Fair xs ys ws) where
     where
       before-next : p ≡ suc p - 1
       before-next = omega arith
+
+-- ---- a step that is known to end the search, or to go on
+module _ (ℓ : Reports) (s p n : ℕ) (r : Step) (is : StepIs ℓ s p n r) where
+  pub step-ends : (e : End) → r ≡ Ends e → EndIs ℓ s p e
+  unfolding StepIs
+  step-ends e eq = subst (StepIs ℓ s p n) eq is
+
+  pub step-goes : (k : Kept) → r ≡ Goes k → KeptIs ℓ s p k × (k .next ≡ n + 1)
+  unfolding StepIs
+  step-goes k eq = subst (StepIs ℓ s p n) eq is

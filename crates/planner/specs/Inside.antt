@@ -1,13 +1,16 @@
 -- What the functions inside this crate ask of each other and tell each other. No promise of the entry point cites it.
 -- Assumes nothing.
-use Prim.Native.Nat.{ℕ, suc, _+_, _-_, _≤_, _<_}
+use Prim.Native.Nat.{ℕ, suc, _+_, _*_, _-_, _≤_, _<_}
 use mathlib.Core.Path.{_≡_}
 use mathlib.Core.List.{List}
-use lib.ListN.{length, getD}
+use lib.ListN.{length, getD, set}
 use Rattle.fraction.specs.Fraction.{Fraction}
-use Rattle.critical.specs.Reports.{Reports, Plannable, FirstWithout}
+use Rattle.critical.specs.Reports.{Reports, Positive, Plannable, FirstWithout}
+use Rattle.critical.specs.Rows.{Critical}
 use Rattle.critical.proofs.Lines.{span}
+use Rattle.critical.proofs.Room.{Roomy}
 use Rattle.critical.proofs.Search.{Stretch, Scan, Found, Ready, floor, rowOf}
+use Rattle.planner.specs.Outcome.{rowAt}
 use Rattle.planner.specs.declared.search.Mark.{Mark}
 use Rattle.planner.specs.declared.search.Kept.{Kept}
 use Rattle.planner.specs.declared.search.End.{End}
@@ -82,3 +85,15 @@ pub record EndIs (ℓ : Reports) (s p : ℕ) (e : End) : Type 0 where
 unfoldable pub StepIs : Reports → ℕ → ℕ → ℕ → Step → Type 0
 StepIs ℓ s p next (Ends e) = EndIs ℓ s p e
 StepIs ℓ s p next (Goes kept) = KeptIs ℓ s p kept × (kept .next ≡ next + 1)
+
+-- ---- the rows
+-- The buffer with row k written: five numbers, from place 5k on.
+unfoldable pub putRow : List ℕ → ℕ → ℕ → ℕ → ℕ → ℕ → ℕ → List ℕ
+putRow buffer k first last start end operations =
+    set (set (set (set (set buffer (5 * k) first) (5 * k + 1) last) (5 * k + 2) start) (5 * k + 3) end) (5 * k + 4) operations
+
+-- What the nested search leaves: the rows of the plan wanted, at any fastest pace for which the list is roomy; the rest of the buffer as it was.
+pub record BlocksIn (ℓ : Reports) (before : List ℕ) (blocks : ℕ) (after : List ℕ) : Type 0 where
+  pub as-long : length after ≡ length before
+  pub rest : (i : ℕ) → 5 * blocks ≤ i → getD after i 0 ≡ getD before i 0
+  pub rows : (fastest : Fraction) → Positive fastest → Roomy ℓ fastest → Critical ℓ fastest blocks (rowAt after)

@@ -1,6 +1,7 @@
 // The planner: rules 1 to 9, the pass at the fastest pace, the search for blocks, and their rows.
 // Its one entry point is plan. The promise is in specs/: Offsets (what it is handed), Rules (the
 // refusals and their order), Outcome (what comes back, and what the row buffer then holds).
+mod blocks;
 mod pass;
 mod rules;
 mod search;

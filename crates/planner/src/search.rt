@@ -107,7 +107,16 @@ fn floor(arrivals: &[u32], deadlines: &[u32], j: usize) -> u32
 
 // Report kept.next with its marks: it ends the search where its low exceeds the least high or its
 // high lies below the greatest low; else it joins, and of equal marks the last is kept.
-fn judge(arrivals: &[u32], deadlines: &[u32], operations: &[u32], first: usize, from: u32, kept: Kept, high: Mark, low: Mark) -> Step
+fn judge(
+    arrivals: &[u32],
+    deadlines: &[u32],
+    operations: &[u32],
+    first: usize,
+    from: u32,
+    kept: Kept,
+    high: Mark,
+    low: Mark,
+) -> Step
     requires fair { ⌜ Fair (now arrivals) (now deadlines) (now operations) ⌝ }
     requires weighed { ⌜ Weighed (listOf (now arrivals) (now deadlines) (now operations)) from first kept high low ⌝ }
     ensures { λ r. ⌜ StepIs (listOf (now (arrivals .entry)) (now (deadlines .entry)) (now (operations .entry))) from first (kept .next) r ⌝ }
@@ -141,7 +150,14 @@ fn judge(arrivals: &[u32], deadlines: &[u32], operations: &[u32], first: usize, 
 }
 
 // Report kept.next, which is still of the stretch.
-fn weigh(arrivals: &[u32], deadlines: &[u32], operations: &[u32], first: usize, from: u32, kept: Kept) -> Step
+fn weigh(
+    arrivals: &[u32],
+    deadlines: &[u32],
+    operations: &[u32],
+    first: usize,
+    from: u32,
+    kept: Kept,
+) -> Step
     requires fair { ⌜ Fair (now arrivals) (now deadlines) (now operations) ⌝ }
     requires kept { ⌜ KeptIs (listOf (now arrivals) (now deadlines) (now operations)) from first kept ⌝ }
     requires joined { ⌜ Joins (now arrivals) (now deadlines) (kept .next - 1) ⌝ }
@@ -151,11 +167,27 @@ fn weigh(arrivals: &[u32], deadlines: &[u32], operations: &[u32], first: usize, 
     let sum = kept.sum + operations[j];
     let high = pace_to(j, deadlines[j], from, sum);
     let low = pace_to(j, floor(arrivals, deadlines, j), from, sum);
-    judge(arrivals, deadlines, operations, first, from, kept, high, low)
+    judge(
+        arrivals,
+        deadlines,
+        operations,
+        first,
+        from,
+        kept,
+        high,
+        low,
+    )
 }
 
 // What the next report does to the search: the stretch's end ends it too.
-pub fn take(arrivals: &[u32], deadlines: &[u32], operations: &[u32], first: usize, from: u32, kept: Kept) -> Step
+pub fn take(
+    arrivals: &[u32],
+    deadlines: &[u32],
+    operations: &[u32],
+    first: usize,
+    from: u32,
+    kept: Kept,
+) -> Step
     requires fair { ⌜ Fair (now arrivals) (now deadlines) (now operations) ⌝ }
     requires kept { ⌜ KeptIs (listOf (now arrivals) (now deadlines) (now operations)) from first kept ⌝ }
     ensures { λ r. ⌜ StepIs (listOf (now (arrivals .entry)) (now (deadlines .entry)) (now (operations .entry))) from first (kept .next) r ⌝ }
@@ -173,7 +205,13 @@ pub fn take(arrivals: &[u32], deadlines: &[u32], operations: &[u32], first: usiz
 }
 
 // The search begins with the block's first report.
-pub fn begin(arrivals: &[u32], deadlines: &[u32], operations: &[u32], first: usize, from: u32) -> Kept
+pub fn begin(
+    arrivals: &[u32],
+    deadlines: &[u32],
+    operations: &[u32],
+    first: usize,
+    from: u32,
+) -> Kept
     requires fair { ⌜ Fair (now arrivals) (now deadlines) (now operations) ⌝ }
     requires on { ⌜ first < length (now arrivals) ⌝ }
     ensures { λ r. ⌜ KeptIs (listOf (now (arrivals .entry)) (now (deadlines .entry)) (now (operations .entry))) from first r ⌝ }

@@ -42,7 +42,7 @@ add-t9 c = search needs
 
 -- src/search.rt:176:1
 returns : tie.Need-returns
-returns c = 
+returns c =
     let s = c .before .before .before .before .before .before .before .before in
     let a = s .args in
     (begins-kept (a .arrivals .now) (a .deadlines .now) (a .operations .now) (s .pre .0) (a .from) (a .first) (c .before .before .pace-to .result) (c .pace-to2 .result) (c .before .floor .result) _ (s .pre .1) refl (c .before .floor .ensures) (c .before .before .pace-to .ensures) (c .pace-to2 .ensures), refl)

@@ -26,7 +26,7 @@ shared-slice-read-t18 c = search needs
 -- src/search.rt:119:9
 returns : tie.Need-returns
 unfolding StepIs
-returns c = 
+returns c =
     let s = c .before .before .before .before .before .before .before .before in
     let a = s .args in
     let ℓ = listOf (a .arrivals .now) (a .deadlines .now) (a .operations .now) in
@@ -53,7 +53,7 @@ shared-slice-read-t24 c = search needs
 -- src/search.rt:127:9
 returns-2 : tie.Need-returns-2
 unfolding StepIs
-returns-2 c = 
+returns-2 c =
     let s = c .before .before .before .before .before .before .before .before .before .before in
     let a = s .args in
     let ℓ = listOf (a .arrivals .now) (a .deadlines .now) (a .operations .now) in
@@ -84,14 +84,16 @@ add-t27 c = omega (arith, c .before .before .before .before .before .before .bef
 -- src/search.rt:110:1
 returns-3 : tie.Need-returns-3
 unfolding StepIs
-returns-3 c = 
+returns-3 c =
     let s = c .before .before .before .before .before .before .before .before .before .before .before .before .before .before in
     let a = s .args in
     let ℓ = listOf (a .arrivals .now) (a .deadlines .now) (a .operations .now) in
     let wd = s .pre .1 in
-    let some = s .pre .0 .some (a .first) (omega (arith, wd .kept-in .stretch .from, wd .kept-in .stretch .on-list)) in
-    (goes-on-with ℓ (a .from) (a .first) some (a .kept) (a .high) (a .low) wd (c .before .before .before .before .below3 .result) (c .before .before .below4 .result) (c .before .before .before .choose .result) (c .before .choose2 .result)
-    (sym (c .before .before .before .before .before .before .before .before .below .ensures) ∙ c .before .before .before .before .before .before .before .if1 .left) (sym (c .before .before .before .before .before .before .below2 .ensures) ∙ c .before .before .before .before .before .if2 .left) (c .before .before .before .before .below3 .ensures) (c .before .before .below4 .ensures) (c .before .before .before .choose .ensures) (c .before .choose2 .ensures), refl)
+    let some = s .pre .0 .some (a .first) (omega (arith, wd .kept-in .stretch .from, wd .kept-in .stretch .on-list)) in (
+      goes-on-with ℓ (a .from) (a .first) some (a .kept) (a .high) (a .low) wd (c .before .before .before .before .below3 .result) (c .before .before .below4 .result) (c .before .before .before .choose .result) (c .before .choose2 .result)
+          (sym (c .before .before .before .before .before .before .before .before .below .ensures) ∙ c .before .before .before .before .before .before .before .if1 .left) (sym (c .before .before .before .before .before .before .below2 .ensures) ∙ c .before .before .before .before .before .if2 .left) (c .before .before .before .before .below3 .ensures) (c .before .before .below4 .ensures) (c .before .before .before .choose .ensures) (c .before .choose2 .ensures),
+      refl,
+    )
 
 pub judge-spec : {M : Type 1} → statement M
 judge-spec =

@@ -18,7 +18,7 @@ joins-requires c κs = search needs
 
 -- src/search.rt:165:9
 weigh-requires : tie.Need-weigh-requires
-weigh-requires c κs = 
+weigh-requires c κs =
     let s = c .before .before .before .before .before .before in
     (s .pre .0, (s .pre .1, c .before .joins .ensures .0 (c .if1 .taken)))
 
@@ -37,7 +37,7 @@ returns c = search needs
 -- src/search.rt:158:1
 returns-2 : tie.Need-returns-2
 unfolding StepIs
-returns-2 c = 
+returns-2 c =
     let s = c .before .before .before .before .before .before .before in
     let a = s .args in
     ends-whole (a .arrivals .now) (a .deadlines .now) (a .operations .now) (s .pre .0) (a .from) (a .first) (a .kept) (s .pre .1) (c .before .before .joins .ensures .1 (c .before .if1 .left))

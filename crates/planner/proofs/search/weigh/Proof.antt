@@ -20,7 +20,7 @@ shared-slice-read-sum c = search needs
 
 -- src/search.rt:151:15
 add-sum : tie.Need-add-sum
-add-sum c = 
+add-sum c =
     let s = c .before .before .before .before .before in
     let a = s .args in
     omega (arith, sum-small (a .arrivals .now) (a .deadlines .now) (a .operations .now) (s .pre .0) (a .from) (a .first) (a .kept) (s .pre .1 .0) (s .pre .1 .1))
@@ -47,7 +47,7 @@ pace-to-requires-2 c κs = search needs
 
 -- src/search.rt:154:5
 judge-requires : tie.Need-judge-requires
-judge-requires c κs = 
+judge-requires c κs =
     let s = c .before .before .before .before .before .before .before .before .before in
     let a = s .args in
     (s .pre .0, weighed (a .arrivals .now) (a .deadlines .now) (a .operations .now) (s .pre .0) (a .from) (a .first) (a .kept) (s .pre .1 .0) (s .pre .1 .1) (c .before .before .pace-to .result) (c .pace-to2 .result) (c .before .floor .result) _ refl (c .before .floor .ensures) (c .before .before .pace-to .ensures) (c .pace-to2 .ensures))

@@ -1,0 +1,172 @@
+use borrow.Author.Needs.{needs}
+use Prim.Native.Nat.{_+_, _-_}
+use mathlib.Core.Path.{sym, subst}
+use lib.ListN.{length}
+use native.Mathlib.Omega.{arith}
+use Rattle.critical.specs.Reports.{listOf}
+use Rattle.planner.specs.Inside.{KeptIs}
+use Rattle.planner.proofs.Building.{Building, builds-from-nothing, builds-on, builds-all, put-room}
+use Rattle.planner.proofs.Searching.{step-ends, step-goes}
+use Rattle.planner.proofs.blocks.blocks.Statement.{statement}
+use Rattle.planner.proofs.blocks.blocks.Tie as tie
+use Rattle.planner.proofs.blocks.blocks.Reads as reads
+use Rattle.planner.proofs.blocks.blocks.Lts as lts
+use Rattle.planner.proofs.blocks.later.Reads as later-reads
+use Rattle.planner.proofs.blocks.put_row.Reads as put-row-reads
+use Rattle.planner.proofs.search.begin.Reads as begin-reads
+use Rattle.planner.proofs.search.take.Reads as take-reads
+
+abbrev Inv-search : tie.InvT-search
+Inv-search arrivals deadlines operations rows count first ended from kept₀ kept = KeptIs (listOf arrivals deadlines operations) from first kept
+
+abbrev μ-search : tie.MeasureT-search
+μ-search arrivals deadlines operations rows count first ended from kept₀ kept = length arrivals + 1 - kept .next
+
+abbrev Inv-loop : tie.InvT-loop
+Inv-loop arrivals deadlines operations rows₀ count₀ first₀ ended₀ rows count first ended = Building (listOf arrivals deadlines operations) rows₀ count first ended rows
+
+abbrev μ-loop : tie.MeasureT-loop
+μ-loop arrivals deadlines operations rows₀ count₀ first₀ ended₀ rows count first ended = length arrivals - first
+
+-- src/blocks.rt:43:5
+loop-holds : tie.Need-loop-holds Inv-search μ-search Inv-loop μ-loop
+loop-holds c = let a = c .before .before .before .before .args in builds-from-nothing (a .arrivals .now) (a .deadlines .now) (a .operations .now) (c .before .before .before .before .pre .0) (a .rows .now) (c .before .before .before .before .pre .1)
+
+-- src/blocks.rt:44:26
+mul-later : tie.Need-mul-later Inv-search μ-search Inv-loop μ-loop
+mul-later c = search needs
+
+-- src/blocks.rt:44:26
+shared-slice-read-later : tie.Need-shared-slice-read-later Inv-search μ-search Inv-loop μ-loop
+shared-slice-read-later c = search needs
+
+-- src/blocks.rt:44:13
+later-requires : tie.Need-later-requires Inv-search μ-search Inv-loop μ-loop
+later-requires c κs = search needs
+
+-- src/blocks.rt:45:13
+begin-requires : tie.Need-begin-requires Inv-search μ-search Inv-loop μ-loop
+begin-requires c κs = search needs
+
+-- src/blocks.rt:46:13
+search-holds : tie.Need-search-holds Inv-search μ-search Inv-loop μ-loop
+search-holds c = search needs
+
+-- src/blocks.rt:47:17
+take-requires : tie.Need-take-requires Inv-search μ-search Inv-loop μ-loop
+take-requires c κs = search needs
+
+-- src/blocks.rt:49:28
+enum-known-step : tie.Need-enum-known-step Inv-search μ-search Inv-loop μ-loop
+enum-known-step c = search needs
+
+-- src/blocks.rt:50:28
+enum-known-step-2 : tie.Need-enum-known-step-2 Inv-search μ-search Inv-loop μ-loop
+enum-known-step-2 c = search needs
+
+-- src/blocks.rt:46:13
+search-less : tie.Need-search-less Inv-search μ-search Inv-loop μ-loop
+search-less c =
+    let l = c .before .before .before .before .before .before .before .before .before in
+    let s = l .before .before .before .before .before in
+    let a = s .args in
+    let ℓ = listOf (a .arrivals .now) (a .deadlines .now) (a .operations .now) in
+    let next = step-goes ℓ (c .before .before .before .before .before .before .later .result) (l .loop .first) _ (c .before .before .before .take .result) (c .before .before .before .take .ensures) (c .before .step2 .given .0 .0) (c .before .step2 .given .1) .1 in
+    let inv = c .before .before .before .before .search .inv in
+    omega (arith, next, inv .kept-in .upto, inv .kept-in .stretch .on-list)
+
+-- src/blocks.rt:46:13
+search-again : tie.Need-search-again Inv-search μ-search Inv-loop μ-loop
+search-again c =
+    let l = c .before .before .before .before .before .before .before .before .before in
+    let s = l .before .before .before .before .before in
+    let a = s .args in
+    let ℓ = listOf (a .arrivals .now) (a .deadlines .now) (a .operations .now) in
+    step-goes ℓ (c .before .before .before .before .before .before .later .result) (l .loop .first) _ (c .before .before .before .take .result) (c .before .before .before .take .ensures) (c .before .step2 .given .0 .0) (c .before .step2 .given .1) .0
+
+-- src/blocks.rt:57:9
+put-row-requires : tie.Need-put-row-requires Inv-search μ-search Inv-loop μ-loop
+put-row-requires c κs =
+    let l = c .before .before .before .before .before .before .before .before .before .before in
+    let s = l .before .before .before .before .before in
+    let a = s .args in
+    let ℓ = listOf (a .arrivals .now) (a .deadlines .now) (a .operations .now) in
+    let e = c .before .before .step .given .0 .0 in
+    let end-is = step-ends ℓ (c .before .before .before .before .before .before .before .later .result) (l .loop .first) _ (c .before .before .before .before .take .result) (c .before .before .before .before .take .ensures) e (c .before .before .step .given .1) in (
+      put-room (a .arrivals .now) (a .deadlines .now) (a .operations .now) (s .pre .0) (a .rows .now) (s .pre .1) (l .loop .count) (l .loop .first) (l .loop .ended) (c .before .before .before .before .before .before .before .later .result) (l .loop .rows) (l .loop .inv) e end-is (c .before .before .before .before .before .before .before .later .ensures) (c .before .before .before .before .before .before .before .before .before .loop-test .taken),
+      omega (arith, c .before .before .before .before .before .before .before .before .before .loop-test .taken, s .pre .0 .few),
+      omega (arith, end-is .on, end-is .stretch .on-list, s .pre .0 .few),
+    )
+
+-- src/blocks.rt:58:9
+add-count : tie.Need-add-count Inv-search μ-search Inv-loop μ-loop
+add-count c = search needs
+
+-- src/blocks.rt:59:17
+add-first : tie.Need-add-first Inv-search μ-search Inv-loop μ-loop
+add-first c =
+    let l = c .before .before .before .before .before .before .before .before .before .before .before .before .before in
+    let s = l .before .before .before .before .before in
+    let a = s .args in
+    let ℓ = listOf (a .arrivals .now) (a .deadlines .now) (a .operations .now) in
+    let e = c .before .before .before .before .before .step .given .0 .0 in
+    let end-is = step-ends ℓ (c .before .before .before .before .before .before .before .before .before .before .later .result) (l .loop .first) _ (c .before .before .before .before .before .before .before .take .result) (c .before .before .before .before .before .before .before .take .ensures) e (c .before .before .before .before .before .step .given .1) in
+    omega (arith, end-is .on, end-is .stretch .on-list, s .pre .0 .few)
+
+-- src/blocks.rt:43:5
+loop-less : tie.Need-loop-less Inv-search μ-search Inv-loop μ-loop
+loop-less c =
+    let l = c .before .before .before .before .before .before .before .before .before .before .before .before .before in
+    let s = l .before .before .before .before .before in
+    let a = s .args in
+    let ℓ = listOf (a .arrivals .now) (a .deadlines .now) (a .operations .now) in
+    let e = c .before .before .before .before .before .step .given .0 .0 in
+    let end-is = step-ends ℓ (c .before .before .before .before .before .before .before .before .before .before .later .result) (l .loop .first) _ (c .before .before .before .before .before .before .before .take .result) (c .before .before .before .before .before .before .before .take .ensures) e (c .before .before .before .before .before .step .given .1) in
+    omega (arith, end-is .from, c .before .before .before .before .before .before .before .before .before .before .before .before .loop-test .taken)
+
+-- src/blocks.rt:43:5
+loop-again : tie.Need-loop-again Inv-search μ-search Inv-loop μ-loop
+loop-again c =
+    let l = c .before .before .before .before .before .before .before .before .before .before .before .before .before in
+    let s = l .before .before .before .before .before in
+    let a = s .args in
+    let ℓ = listOf (a .arrivals .now) (a .deadlines .now) (a .operations .now) in
+    let e = c .before .before .before .before .before .step .given .0 .0 in
+    let end-is = step-ends ℓ (c .before .before .before .before .before .before .before .before .before .before .later .result) (l .loop .first) _ (c .before .before .before .before .before .before .before .take .result) (c .before .before .before .before .before .before .before .take .ensures) e (c .before .before .before .before .before .step .given .1) in
+    subst (Building ℓ (a .rows .now) (l .loop .count + 1) (e .last + 1) (e .time)) (sym (c .before .before .put-row .ensures))
+    (builds-on (a .arrivals .now) (a .deadlines .now) (a .operations .now) (s .pre .0) (a .rows .now) (s .pre .1) (l .loop .count) (l .loop .first) (l .loop .ended) (c .before .before .before .before .before .before .before .before .before .before .later .result) (l .loop .rows) (l .loop .inv) e end-is (c .before .before .before .before .before .before .before .before .before .before .later .ensures) (c .before .before .before .before .before .before .before .before .before .before .before .before .loop-test .taken))
+
+-- src/blocks.rt:35:1
+same-length : tie.Need-same-length Inv-search μ-search Inv-loop μ-loop
+same-length c = search needs
+
+-- src/blocks.rt:35:1
+returns : tie.Need-returns Inv-search μ-search Inv-loop μ-loop
+returns c = let s = c .before .before .before .before .before .before in let a = s .args in builds-all (a .arrivals .now) (a .deadlines .now) (a .operations .now) (s .pre .0) (a .rows .now) (s .pre .1) _ _ _ _ (c .before .loop .inv) (c .loop-test .left)
+
+pub blocks-spec : {M : Type 1} → statement M
+blocks-spec =
+    tie.close
+    (tie.spec
+    Inv-search
+    μ-search
+    Inv-loop
+    μ-loop
+    loop-holds
+    mul-later
+    shared-slice-read-later
+    later-requires
+    begin-requires
+    search-holds
+    take-requires
+    enum-known-step
+    enum-known-step-2
+    search-less
+    search-again
+    put-row-requires
+    add-count
+    add-first
+    loop-less
+    loop-again
+    same-length
+    returns)
