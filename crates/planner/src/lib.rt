@@ -5,6 +5,11 @@ mod blocks;
 mod pass;
 mod rules;
 mod search;
+mod settle;
+
+ghost use mathlib.Core.Path.{_≡_};
+ghost use Rattle.planner.specs.Offsets.{Input};
+ghost use Rattle.planner.specs.Outcome.{PlanOutcome, numberOf, placeOf, blocksOf};
 
 // The answer: the block count, or a refusal with the report it concerns. specs/Outcome.antt gives
 // 01's number, place and block count for each case.
@@ -19,4 +24,48 @@ pub enum Answer {
     BadDeadline(usize),
     ArrivalFalls(usize),
     NoPlan(usize),
+}
+
+// A report, by its offsets.
+pub struct Report {
+    pub arrival: u32,
+    pub deadline: u32,
+    pub operations: u32,
+}
+
+impl Report {
+    // The most operations a report may have.
+    pub const OPERATIONS: u32 = 65535;
+    // The largest usable offset.
+    pub const OFFSET: u32 = 2147483647;
+
+    pub fn new(arrival: u32, deadline: u32, operations: u32) -> Report
+        ensures { λ r. ⌜ r ≡ record { arrival = arrival; deadline = deadline; operations = operations } ⌝ }
+    {
+        Report {
+            arrival,
+            deadline,
+            operations,
+        }
+    }
+}
+
+// What a roll says beside its reports: the reference reading, and the fastest pace P/Q.
+pub struct Roll {
+    pub reference: u32,
+    pub p: u32,
+    pub q: u32,
+}
+
+impl Roll {
+    // The most reports a roll may have.
+    pub const REPORTS: usize = 1024;
+    // The largest P and Q.
+    pub const PACE: u32 = 65535;
+
+    pub fn new(reference: u32, p: u32, q: u32) -> Roll
+        ensures { λ r. ⌜ r ≡ record { reference = reference; p = p; q = q } ⌝ }
+    {
+        Roll { reference, p, q }
+    }
 }

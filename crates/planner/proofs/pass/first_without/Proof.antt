@@ -1,7 +1,7 @@
 use borrow.Author.Needs.{needs}
-use Prim.Native.Nat.{ℕ, _+_, _*_, _≤_, _<_, _-_}
-use mathlib.Core.Path.{_≡_, subst}
-use native.Mathlib.Nat.{mul-le-mul, not-suc-le-zero}
+use Prim.Native.Nat.{ℕ, _+_, _*_, _≤_, _<_, _-_, max}
+use mathlib.Core.Path.{_≡_, _∙_, ap, subst}
+use native.Mathlib.Nat.{not-suc-le-zero}
 use native.Mathlib.Omega.{arith}
 use lib.ListN.{length, getD}
 use Rattle.fraction.specs.Fraction.{over}
@@ -12,122 +12,122 @@ use Rattle.planner.proofs.pass.first_without.Statement.{statement}
 use Rattle.planner.proofs.pass.first_without.Tie as tie
 use Rattle.planner.proofs.pass.first_without.Reads as reads
 use Rattle.planner.proofs.pass.first_without.Lts as lts
+use Rattle.planner.proofs.Report.new.Reads as new-reads
+use Rattle.planner.proofs.pass.due.Reads as due-reads
 use Rattle.planner.proofs.pass.finish.Reads as finish-reads
 
 abbrev Inv-loop : tie.InvT-loop
-Inv-loop arrivals deadlines operations p q i₀ done₀ i done =
+Inv-loop arrivals deadlines operations roll i₀ done₀ i done =
     (i ≤ length arrivals)
-    × (done ≡ through (listOf arrivals deadlines operations) p q i)
+    × (done ≡ through (listOf arrivals deadlines operations) (roll .p) (roll .q) i)
     × (done ≤ 140735340806145 + i * 4294836225)
-    × HoldsTo (listOf arrivals deadlines operations) (over p q) i
+    × HoldsTo (listOf arrivals deadlines operations) (over (roll .p) (roll .q)) i
 
 abbrev μ-loop : tie.MeasureT-loop
-μ-loop arrivals deadlines operations p q i₀ done₀ i done = length arrivals - i
+μ-loop arrivals deadlines operations roll i₀ done₀ i done = length arrivals - i
 
--- src/pass.rt:31:5
+-- src/pass.rt:40:5
 loop-holds : tie.Need-loop-holds Inv-loop μ-loop
-loop-holds c =
+loop-holds c = 
     let a = c .before .before .before .args in
-    (search needs, through-zero (listOf (a .arrivals .now) (a .deadlines .now) (a .operations .now)) (a .p) (a .q), search needs, λ i h. absurd (not-suc-le-zero h))
+    (search needs, through-zero (listOf (a .arrivals .now) (a .deadlines .now) (a .operations .now)) (a .roll .p) (a .roll .q), search needs, λ i h. absurd (not-suc-le-zero h))
 
--- src/pass.rt:32:23
-mul-finish : tie.Need-mul-finish Inv-loop μ-loop
-mul-finish c = search needs
+-- src/pass.rt:41:34
+mul-new : tie.Need-mul-new Inv-loop μ-loop
+mul-new c = search needs
 
--- src/pass.rt:32:23
-shared-slice-read-finish : tie.Need-shared-slice-read-finish Inv-loop μ-loop
-shared-slice-read-finish c = search needs
+-- src/pass.rt:41:34
+shared-slice-read-new : tie.Need-shared-slice-read-new Inv-loop μ-loop
+shared-slice-read-new c = search needs
 
--- src/pass.rt:32:36
-mul-finish-2 : tie.Need-mul-finish-2 Inv-loop μ-loop
-mul-finish-2 c = search needs
+-- src/pass.rt:41:47
+mul-new-2 : tie.Need-mul-new-2 Inv-loop μ-loop
+mul-new-2 c = search needs
 
--- src/pass.rt:32:36
-shared-slice-read-finish-2 : tie.Need-shared-slice-read-finish-2 Inv-loop μ-loop
-shared-slice-read-finish-2 c = search needs
+-- src/pass.rt:41:47
+shared-slice-read-new-2 : tie.Need-shared-slice-read-new-2 Inv-loop μ-loop
+shared-slice-read-new-2 c = search needs
 
--- src/pass.rt:32:9
+-- src/pass.rt:41:61
+mul-new-3 : tie.Need-mul-new-3 Inv-loop μ-loop
+mul-new-3 c = search needs
+
+-- src/pass.rt:41:61
+shared-slice-read-new-3 : tie.Need-shared-slice-read-new-3 Inv-loop μ-loop
+shared-slice-read-new-3 c = search needs
+
+-- src/pass.rt:41:13
+new-requires : tie.Need-new-requires Inv-loop μ-loop
+new-requires c κs = search needs
+
+-- src/pass.rt:42:9
 finish-requires : tie.Need-finish-requires Inv-loop μ-loop
-finish-requires c κs =
-    let l = c .before .before .before in
-    let s = l .before .before .before .before in
-    let a = s .args in
-    let ℓ = listOf (a .arrivals .now) (a .deadlines .now) (a .operations .now) in
-    let i = l .loop .i in
-    (s .pre .0 .work i (search needs), s .pre .1 .1, s .pre .1 .3, omega (arith, l .loop .inv .2, l .loop .inv .0, s .pre .0 .few))
-
--- src/pass.rt:33:26
-mul-if1 : tie.Need-mul-if1 Inv-loop μ-loop
-mul-if1 c = search needs
-
--- src/pass.rt:33:26
-shared-slice-read-if1 : tie.Need-shared-slice-read-if1 Inv-loop μ-loop
-shared-slice-read-if1 c = search needs
-
--- src/pass.rt:33:26
-cast-if1 : tie.Need-cast-if1 Inv-loop μ-loop
-cast-if1 c =
+finish-requires c κs = 
     let l = c .before .before .before .before .before in
     let s = l .before .before .before .before in
     let a = s .args in
+    let p = a .roll .p in
+    let q = a .roll .q in
     let ℓ = listOf (a .arrivals .now) (a .deadlines .now) (a .operations .now) in
     let i = l .loop .i in
-    omega (arith, s .pre .0 .due i (search needs))
+    (omega (arith, ap (λ r. r .operations) (c .new .ensures), s .pre .0 .work i (search needs)), s .pre .1 .1, s .pre .1 .3, omega (arith, l .loop .inv .2, l .loop .inv .0, s .pre .0 .few))
 
--- src/pass.rt:33:12
-mul-if1-2 : tie.Need-mul-if1-2 Inv-loop μ-loop
-mul-if1-2 c =
-    let l = c .before .before .before .before .before in
-    let s = l .before .before .before .before in
-    let a = s .args in
-    let ℓ = listOf (a .arrivals .now) (a .deadlines .now) (a .operations .now) in
-    let i = l .loop .i in
-    omega (arith, mul-le-mul (s .pre .1 .3) (s .pre .0 .due i (search needs)))
+-- src/pass.rt:43:12
+due-requires : tie.Need-due-requires Inv-loop μ-loop
+due-requires c κs = search needs
 
--- src/pass.rt:34:13
+-- src/pass.rt:44:13
 returns : tie.Need-returns Inv-loop μ-loop
-returns c =
-    let l = c .before .before .before .before .before .before in
+returns c = 
+    let l = c .before .before .before .before .before .before .before .before in
     let s = l .before .before .before .before in
     let a = s .args in
+    let p = a .roll .p in
+    let q = a .roll .q in
     let ℓ = listOf (a .arrivals .now) (a .deadlines .now) (a .operations .now) in
     let i = l .loop .i in
-    let e = through-step ℓ (a .p) (a .q) (s .pre .1 .0) (s .pre .1 .2) i (l .loop .done) (c .before .before .finish .result) (l .loop .inv .1) (c .before .before .finish .ensures) in
+    let e = through-step ℓ p q (s .pre .1 .0) (s .pre .1 .2) i (l .loop .done) (c .before .before .finish .result) (l .loop .inv .1)
+          (c .before .before .finish .ensures ∙ ap (λ r. max (q * r .arrival) (l .loop .done) + r .operations * p) (c .before .before .before .new .ensures)) in
+    let d : c .before .due .result ≡ q * getD (a .deadlines .now) i 0 = c .before .due .ensures ∙ ap (λ r. q * r .deadline) (c .before .before .before .new .ensures) in
     record {
       within = search needs;
-      stops = λ h. stops-at ℓ (a .p) (a .q) (s .pre .1 .0) (s .pre .1 .2) i h (l .loop .inv .3) (omega (arith, e, c .if1 .taken));
+      stops = λ h. stops-at ℓ p q (s .pre .1 .0) (s .pre .1 .2) i h (l .loop .inv .3) (omega (arith, e, d, c .if1 .taken));
       passes = λ x. absurd (omega (arith, x));
     }
 
--- src/pass.rt:36:9
+-- src/pass.rt:46:9
 add-i : tie.Need-add-i Inv-loop μ-loop
 add-i c = search needs
 
--- src/pass.rt:31:5
+-- src/pass.rt:40:5
 loop-less : tie.Need-loop-less Inv-loop μ-loop
 loop-less c = search needs
 
--- src/pass.rt:31:5
+-- src/pass.rt:40:5
 loop-again : tie.Need-loop-again Inv-loop μ-loop
-loop-again c =
-    let l = c .before .before .before .before .before .before in
+loop-again c = 
+    let l = c .before .before .before .before .before .before .before .before in
     let s = l .before .before .before .before in
     let a = s .args in
+    let p = a .roll .p in
+    let q = a .roll .q in
     let ℓ = listOf (a .arrivals .now) (a .deadlines .now) (a .operations .now) in
     let i = l .loop .i in
-    let e = through-step ℓ (a .p) (a .q) (s .pre .1 .0) (s .pre .1 .2) i (l .loop .done) (c .before .before .finish .result) (l .loop .inv .1) (c .before .before .finish .ensures) in (
-      search needs,
-      e,
-      omega (arith, c .before .before .finish .ensures, through-bound (getD (a .arrivals .now) i 0) (getD (a .operations .now) i 0) (a .p) (a .q) (l .loop .done) i (s .pre .0 .arrive i (search needs)) (s .pre .1 .3) (s .pre .0 .work i (search needs)) (s .pre .1 .1) (l .loop .inv .2)),
-      holds-on ℓ (a .p) (a .q) (s .pre .1 .0) (s .pre .1 .2) i (l .loop .inv .3) (omega (arith, e, c .if1 .left)),
-    )
+    let e = through-step ℓ p q (s .pre .1 .0) (s .pre .1 .2) i (l .loop .done) (c .before .before .finish .result) (l .loop .inv .1)
+          (c .before .before .finish .ensures ∙ ap (λ r. max (q * r .arrival) (l .loop .done) + r .operations * p) (c .before .before .before .new .ensures)) in
+    let d : c .before .due .result ≡ q * getD (a .deadlines .now) i 0 = c .before .due .ensures ∙ ap (λ r. q * r .deadline) (c .before .before .before .new .ensures) in
+    (search needs, e,
+    omega (arith, c .before .before .finish .ensures ∙ ap (λ r. max (q * r .arrival) (l .loop .done) + r .operations * p) (c .before .before .before .new .ensures), through-bound (getD (a .arrivals .now) i 0) (getD (a .operations .now) i 0) p q (l .loop .done) i (s .pre .0 .arrive i (search needs)) (s .pre .1 .3) (s .pre .0 .work i (search needs)) (s .pre .1 .1) (l .loop .inv .2)),
+    holds-on ℓ p q (s .pre .1 .0) (s .pre .1 .2) i (l .loop .inv .3) (omega (arith, e, d, c .if1 .left)))
 
--- src/pass.rt:24:1
+-- src/pass.rt:33:1
 returns-2 : tie.Need-returns-2 Inv-loop μ-loop
-returns-2 c =
+returns-2 c = 
     let l = c .before in
     let s = l .before .before .before .before in
     let a = s .args in
+    let p = a .roll .p in
+    let q = a .roll .q in
     let ℓ = listOf (a .arrivals .now) (a .deadlines .now) (a .operations .now) in
     let i = l .loop .i in
     let n = length (a .arrivals .now) in
@@ -135,7 +135,7 @@ returns-2 c =
     record {
       within = search needs;
       stops = λ h. absurd (omega (arith, h, e));
-      passes = λ _. passes ℓ (a .p) (a .q) (s .pre .1 .0) (s .pre .1 .2) (subst (HoldsTo ℓ (over (a .p) (a .q))) e (l .loop .inv .3));
+      passes = λ _. passes ℓ p q (s .pre .1 .0) (s .pre .1 .2) (subst (HoldsTo ℓ (over p q)) e (l .loop .inv .3));
     }
 
 pub first-without-spec : {M : Type 1} → statement M
@@ -145,15 +145,15 @@ first-without-spec =
     Inv-loop
     μ-loop
     loop-holds
-    mul-finish
-    shared-slice-read-finish
-    mul-finish-2
-    shared-slice-read-finish-2
+    mul-new
+    shared-slice-read-new
+    mul-new-2
+    shared-slice-read-new-2
+    mul-new-3
+    shared-slice-read-new-3
+    new-requires
     finish-requires
-    mul-if1
-    shared-slice-read-if1
-    cast-if1
-    mul-if1-2
+    due-requires
     returns
     add-i
     loop-less
