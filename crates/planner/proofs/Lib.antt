@@ -3,3 +3,4 @@ pub mod Through
 pub mod Searching
 pub mod Writing
 pub mod Building
+pub mod Outcomes

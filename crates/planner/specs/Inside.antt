@@ -27,6 +27,20 @@ pub record Fair (arrivals deadlines operations : List ℕ) : Type 0 where
   pub arrive : (i : ℕ) → i < length arrivals → getD arrivals i 0 ≤ 2147483647
   pub due : (i : ℕ) → i < length arrivals → getD deadlines i 0 ≤ 2147483647
 
+-- Lists and a buffer that have passed rules 1 to 3.
+pub record Sized (arrivals deadlines operations buffer : List ℕ) : Type 0 where
+  pub deadlines-long : length deadlines ≡ length arrivals
+  pub operations-long : length operations ≡ length arrivals
+  pub few : length arrivals ≤ 1024
+  pub room : 5 * length arrivals ≤ length buffer
+
+-- P and Q that have passed rule 4.
+pub record Paced (p q : ℕ) : Type 0 where
+  pub p-some : 1 ≤ p
+  pub p-most : p ≤ 65535
+  pub q-some : 1 ≤ q
+  pub q-most : q ≤ 65535
+
 -- Where the pass at the fastest pace ends: at the first report without a plan, or behind the list.
 pub record PassEnds (ℓ : Reports) (fastest : Fraction) (r : ℕ) : Type 0 where
   pub within : r ≤ ℓ .count

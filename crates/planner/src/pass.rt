@@ -6,7 +6,7 @@ ghost use mathlib.Core.Path.{_≡_};
 ghost use Prim.Native.Nat.{_+_, _*_, _^_, _≤_, _<_, max};
 ghost use Rattle.fraction.specs.Fraction.{over};
 ghost use Rattle.critical.specs.Reports.{listOf};
-ghost use Rattle.planner.specs.Inside.{Fair, PassEnds};
+ghost use Rattle.planner.specs.Inside.{Fair, Paced, PassEnds};
 
 // Q times the finish of a report, from Q times the finish of the one before.
 fn finish(report: Report, roll: Roll, before: u64) -> u64
@@ -32,7 +32,7 @@ fn due(report: Report, roll: Roll) -> u64
 // The first report without a plan, or the list's length where there is a plan for all.
 pub fn first_without(arrivals: &[u32], deadlines: &[u32], operations: &[u32], roll: Roll) -> usize
     requires fair { ⌜ Fair (now arrivals) (now deadlines) (now operations) ⌝ }
-    requires pace { ⌜ (1 ≤ roll .p) × (roll .p ≤ 65535) × (1 ≤ roll .q) × (roll .q ≤ 65535) ⌝ }
+    requires pace { ⌜ Paced (roll .p) (roll .q) ⌝ }
     ensures { λ r. ⌜ PassEnds (listOf (now (arrivals .entry)) (now (deadlines .entry)) (now (operations .entry))) (over (roll .p) (roll .q)) r ⌝ }
 {
     let mut i = 0;

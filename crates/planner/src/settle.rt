@@ -1,1 +1,55 @@
 // The rules of the reports, on offsets, and the plan: what is left once the whole list is in order.
+use crate::blocks;
+use crate::pass;
+use crate::rules;
+use crate::Answer;
+use crate::Report;
+use crate::Roll;
+ghost use Prim.Native.Nat.{_*_, _≤_};
+ghost use lib.ListN.{length};
+ghost use Rattle.fraction.specs.Fraction.{over};
+ghost use Rattle.critical.specs.Reports.{listOf};
+ghost use Rattle.planner.specs.Rules.{planRule, reportRules};
+ghost use Rattle.planner.specs.Outcome.{Outcome, numberOf, placeOf, blocksOf};
+ghost use Rattle.planner.specs.Inside.{Fair, Paced, Sized};
+
+// Rule 9, decided before the first row is written, and the rows.
+fn plan_fair(arrivals: &[u32], deadlines: &[u32], operations: &[u32], roll: Roll, rows: &mut [u32]) -> Answer
+    requires fair { ⌜ Fair (now arrivals) (now deadlines) (now operations) ⌝ }
+    requires room { ⌜ 5 * length (now arrivals) ≤ length (now rows) ⌝ }
+    requires pace { ⌜ Paced (roll .p) (roll .q) ⌝ }
+    ensures { λ r. ⌜ Outcome (planRule (listOf (now (arrivals .entry)) (now (deadlines .entry)) (now (operations .entry))) (over (roll .p) (roll .q))) (listOf (now (arrivals .entry)) (now (deadlines .entry)) (now (operations .entry))) (over (roll .p) (roll .q)) (now (rows .entry)) (numberOf r) (placeOf r) (blocksOf r) (now (rows .exit)) ⌝ }
+{
+    let without = pass::first_without(arrivals, deadlines, operations, roll);
+    if without < arrivals.len() {
+        return Answer::NoPlan(without);
+    }
+    let count = blocks::blocks(arrivals, deadlines, operations, rows);
+    Answer::Planned(count)
+}
+
+// Rules 5 to 9, each over the whole list before the next.
+pub fn settle(arrivals: &[u32], deadlines: &[u32], operations: &[u32], roll: Roll, rows: &mut [u32]) -> Answer
+    requires sized { ⌜ Sized (now arrivals) (now deadlines) (now operations) (now rows) ⌝ }
+    requires pace { ⌜ Paced (roll .p) (roll .q) ⌝ }
+    ensures { λ r. ⌜ Outcome (reportRules (listOf (now (arrivals .entry)) (now (deadlines .entry)) (now (operations .entry))) (over (roll .p) (roll .q))) (listOf (now (arrivals .entry)) (now (deadlines .entry)) (now (operations .entry))) (over (roll .p) (roll .q)) (now (rows .entry)) (numberOf r) (placeOf r) (blocksOf r) (now (rows .exit)) ⌝ }
+{
+    let n = arrivals.len();
+    let busy = rules::first_outside(operations, 1, Report::OPERATIONS);
+    if busy < n {
+        return Answer::BadOperations(busy);
+    }
+    let early = rules::first_outside(arrivals, 0, Report::OFFSET);
+    if early < n {
+        return Answer::BadArrival(early);
+    }
+    let late = rules::first_outside(deadlines, 0, Report::OFFSET);
+    if late < n {
+        return Answer::BadDeadline(late);
+    }
+    let falls = rules::first_fall(arrivals);
+    if falls < n {
+        return Answer::ArrivalFalls(falls);
+    }
+    plan_fair(arrivals, deadlines, operations, roll, rows)
+}

@@ -70,7 +70,7 @@ finish-requires c κs =
     let q = a .roll .q in
     let ℓ = listOf (a .arrivals .now) (a .deadlines .now) (a .operations .now) in
     let i = l .loop .i in
-    (omega (arith, ap (λ r. r .operations) (c .new .ensures), s .pre .0 .work i (search needs)), s .pre .1 .1, s .pre .1 .3, omega (arith, l .loop .inv .2, l .loop .inv .0, s .pre .0 .few))
+    (omega (arith, ap (λ r. r .operations) (c .new .ensures), s .pre .0 .work i (search needs)), s .pre .1 .p-most, s .pre .1 .q-most, omega (arith, l .loop .inv .2, l .loop .inv .0, s .pre .0 .few))
 
 -- src/pass.rt:43:12
 due-requires : tie.Need-due-requires Inv-loop μ-loop
@@ -86,12 +86,12 @@ returns c =
     let q = a .roll .q in
     let ℓ = listOf (a .arrivals .now) (a .deadlines .now) (a .operations .now) in
     let i = l .loop .i in
-    let e = through-step ℓ p q (s .pre .1 .0) (s .pre .1 .2) i (l .loop .done) (c .before .before .finish .result) (l .loop .inv .1)
+    let e = through-step ℓ p q (s .pre .1 .p-some) (s .pre .1 .q-some) i (l .loop .done) (c .before .before .finish .result) (l .loop .inv .1)
           (c .before .before .finish .ensures ∙ ap (λ r. max (q * r .arrival) (l .loop .done) + r .operations * p) (c .before .before .before .new .ensures)) in
     let d : c .before .due .result ≡ q * getD (a .deadlines .now) i 0 = c .before .due .ensures ∙ ap (λ r. q * r .deadline) (c .before .before .before .new .ensures) in
     record {
       within = search needs;
-      stops = λ h. stops-at ℓ p q (s .pre .1 .0) (s .pre .1 .2) i h (l .loop .inv .3) (omega (arith, e, d, c .if1 .taken));
+      stops = λ h. stops-at ℓ p q (s .pre .1 .p-some) (s .pre .1 .q-some) i h (l .loop .inv .3) (omega (arith, e, d, c .if1 .taken));
       passes = λ x. absurd (omega (arith, x));
     }
 
@@ -113,12 +113,12 @@ loop-again c =
     let q = a .roll .q in
     let ℓ = listOf (a .arrivals .now) (a .deadlines .now) (a .operations .now) in
     let i = l .loop .i in
-    let e = through-step ℓ p q (s .pre .1 .0) (s .pre .1 .2) i (l .loop .done) (c .before .before .finish .result) (l .loop .inv .1)
+    let e = through-step ℓ p q (s .pre .1 .p-some) (s .pre .1 .q-some) i (l .loop .done) (c .before .before .finish .result) (l .loop .inv .1)
           (c .before .before .finish .ensures ∙ ap (λ r. max (q * r .arrival) (l .loop .done) + r .operations * p) (c .before .before .before .new .ensures)) in
     let d : c .before .due .result ≡ q * getD (a .deadlines .now) i 0 = c .before .due .ensures ∙ ap (λ r. q * r .deadline) (c .before .before .before .new .ensures) in
     (search needs, e,
-    omega (arith, c .before .before .finish .ensures ∙ ap (λ r. max (q * r .arrival) (l .loop .done) + r .operations * p) (c .before .before .before .new .ensures), through-bound (getD (a .arrivals .now) i 0) (getD (a .operations .now) i 0) p q (l .loop .done) i (s .pre .0 .arrive i (search needs)) (s .pre .1 .3) (s .pre .0 .work i (search needs)) (s .pre .1 .1) (l .loop .inv .2)),
-    holds-on ℓ p q (s .pre .1 .0) (s .pre .1 .2) i (l .loop .inv .3) (omega (arith, e, d, c .if1 .left)))
+    omega (arith, c .before .before .finish .ensures ∙ ap (λ r. max (q * r .arrival) (l .loop .done) + r .operations * p) (c .before .before .before .new .ensures), through-bound (getD (a .arrivals .now) i 0) (getD (a .operations .now) i 0) p q (l .loop .done) i (s .pre .0 .arrive i (search needs)) (s .pre .1 .q-most) (s .pre .0 .work i (search needs)) (s .pre .1 .p-most) (l .loop .inv .2)),
+    holds-on ℓ p q (s .pre .1 .p-some) (s .pre .1 .q-some) i (l .loop .inv .3) (omega (arith, e, d, c .if1 .left)))
 
 -- src/pass.rt:33:1
 returns-2 : tie.Need-returns-2 Inv-loop μ-loop
@@ -135,7 +135,7 @@ returns-2 c =
     record {
       within = search needs;
       stops = λ h. absurd (omega (arith, h, e));
-      passes = λ _. passes ℓ p q (s .pre .1 .0) (s .pre .1 .2) (subst (HoldsTo ℓ (over p q)) e (l .loop .inv .3));
+      passes = λ _. passes ℓ p q (s .pre .1 .p-some) (s .pre .1 .q-some) (subst (HoldsTo ℓ (over p q)) e (l .loop .inv .3));
     }
 
 pub first-without-spec : {M : Type 1} → statement M
