@@ -37,3 +37,7 @@ map-more f from to i v h k e p =
 
 pub map-done : (f : ℕ → ℕ) (from to : List ℕ) (i : ℕ) → i ≡ length from → take i to ≡ map f (take i from) → take (length from) to ≡ map f from
 map-done f from to i e p = subst (λ (n : ℕ). take n to ≡ map f (take n from)) e p ∙ ap (map f) (take-length from)
+
+pub length-map : (f : ℕ → ℕ) (l : List ℕ) → length (map f l) ≡ length l
+length-map f [] = refl
+length-map f (x ∷ l) = ap suc (length-map f l)

@@ -1,18 +1,20 @@
 -- Outcomes, rule by rule: what a rule that is given, or is not, does to the outcome; and what the rules leave.
 -- Assumes nothing.
 use Prim.Native.Nat.{ℕ, zero, suc, _*_, _≤_, _<_}
-use mathlib.Core.Path.{_≡_, refl, sym, _∙_, subst}
-use mathlib.Core.List.{List, [], _∷_}
-use mathlib.Core.Logic.{inl, inr, ⊎-elim}
+use mathlib.Core.Path.{_≡_, refl, sym, _∙_, ap, subst, subst₂}
+use mathlib.Core.List.{List, [], _∷_, map}
+use mathlib.Core.Logic.{_⊎_, inl, inr, ⊎-elim}
 use native.Mathlib.Omega.{arith}
-use lib.ListN.{length, getD}
+use lib.ListN.{length, getD, take}
 use Rattle.fraction.specs.Fraction.{Fraction, over}
 use Rattle.fraction.proofs.Scale.{cases}
 use Rattle.critical.specs.Reports.{Reports, listOf, Positive, Plannable, FirstWithout}
 use Rattle.critical.proofs.Theorems.{room-decides, not-both}
-use Rattle.planner.specs.Rules.{Rule, Least, FirstOr, Outside, Falls, planRule, reportRules, Silent, Refused, Accepted}
-use Rattle.planner.specs.Outcome.{Outcome, Written}
+use Rattle.planner.specs.Offsets.{Input, offset, offsetsOf, reportsOf, fastestOf}
+use Rattle.planner.specs.Rules.{Rule, Whole, Least, FirstOr, Outside, Falls, planRule, reportRules, Silent, Refused, Accepted}
+use Rattle.planner.specs.Outcome.{Outcome, PlanOutcome, Written}
 use Rattle.planner.specs.Inside.{Sized, Paced, Fair, PassEnds, BlocksIn}
+use Rattle.planner.proofs.Laws.{length-map}
 
 -- ---- faults
 module _ (n : ℕ) (Fault : ℕ → Type 0) (r : ℕ) (first : FirstOr n Fault r) where
@@ -158,4 +160,97 @@ module _ (xs ys ws before : List ℕ) (sized : Sized xs ys ws before) (f : Fract
             work = λ i h. within-range 1 65535 (getD ws i 0) (no-fault n (λ i. Outside 1 65535 (getD ws i 0)) r₅ (first-busy r₅ f₅) h₅ i h) .1;
             arrive = λ i h. cases 2147483647 (getD xs i 0) (λ l. absurd (no-fault n (λ i. 2147483647 < getD xs i 0) r₆ (first-above xs r₆ refl f₆) h₆ i h l)) (λ g. g);
             due = λ i h. cases 2147483647 (getD ys i 0) (λ l. absurd (no-fault n (λ i. 2147483647 < getD ys i 0) r₇ (first-above ys r₇ (sized .deadlines-long) f₇) h₇ i h l)) (λ g. g);
+          }
+
+-- ---- offsets for readings
+-- the front of a scratch array is the list of offsets
+pub front : (g : ℕ → ℕ) (from to : List ℕ) (n : ℕ) → length from ≡ n → take (length from) to ≡ map g from → take n to ≡ map g from
+front g from to n e p = subst (λ (k : ℕ). take k to ≡ map g from) e p
+
+pub front-long : (g : ℕ → ℕ) (from to : List ℕ) (n : ℕ) → length from ≡ n → take (length from) to ≡ map g from → n ≡ length (take n to)
+front-long g from to n e p = sym (ap length (front g from to n e p) ∙ length-map g from ∙ e)
+
+pub sized-offsets : (g : ℕ → ℕ) (xs ys ws zs us before : List ℕ) → us ≡ map g xs → zs ≡ map g ys → Sized xs ys ws before → Sized us zs ws before
+sized-offsets g xs ys ws zs us before e e′ s =
+    let a : length us ≡ length xs = ap length e ∙ length-map g xs in
+    let b : length zs ≡ length ys = ap length e′ ∙ length-map g ys in
+    record {
+      deadlines-long = b ∙ s .deadlines-long ∙ sym a;
+      operations-long = s .operations-long ∙ sym a;
+      few = omega (arith, a, s .few);
+      room = omega (arith, a, s .room);
+    }
+
+pub outcome-offsets :
+    (reference : ℕ) (xs ys ws zs us : List ℕ) (f : Fraction) (before : List ℕ) (number place blocks : ℕ) (after : List ℕ) →
+    us ≡ map (offset reference) xs → zs ≡ map (offset reference) ys →
+    Outcome (reportRules (listOf us zs ws) f) (listOf us zs ws) f before number place blocks after →
+    Outcome (reportRules (offsetsOf reference xs ys ws) f) (offsetsOf reference xs ys ws) f before number place blocks after
+outcome-offsets reference xs ys ws zs us f before number place blocks after e e′ o =
+    subst₂ (λ (a b : List ℕ). Outcome (reportRules (listOf a b ws) f) (listOf a b ws) f before number place blocks after) e e′ o
+
+-- ---- rules 1 to 4
+module _ (x : Input) where
+  abbrev ℓˣ : Reports
+  ℓˣ = reportsOf x
+
+  abbrev fˣ : Fraction
+  fˣ = fastestOf x
+
+  abbrev nˣ : ℕ
+  nˣ = length (x .arrivals)
+
+  abbrev one : Rule
+  one = record { number = 1; given = Whole ((length (x .arrivals) ≡ length (x .deadlines) → ⊥) ⊎ (length (x .arrivals) ≡ length (x .operations) → ⊥)) }
+
+  abbrev two : Rule
+  two = record { number = 2; given = Whole (1024 < length (x .arrivals)) }
+
+  abbrev three : Rule
+  three = record { number = 3; given = Whole (length (x .buffer) < 5 * length (x .arrivals)) }
+
+  abbrev four : Rule
+  four = record { number = 4; given = Whole (Outside 1 65535 (x .P) ⊎ Outside 1 65535 (x .Q)) }
+
+  pub refuses-one : (length (x .arrivals) ≡ length (x .deadlines) → ⊥) ⊎ (length (x .arrivals) ≡ length (x .operations) → ⊥) → PlanOutcome x 1 0 0 (x .buffer)
+  refuses-one h = refuses ℓˣ fˣ (x .buffer) one (two ∷ three ∷ four ∷ reportRules ℓˣ fˣ) 0 0 refl (h, refl)
+
+  module _ (e : length (x .arrivals) ≡ length (x .deadlines)) (e′ : length (x .arrivals) ≡ length (x .operations)) where
+    by-one : (number place blocks : ℕ) (after : List ℕ) → Outcome (two ∷ three ∷ four ∷ reportRules ℓˣ fˣ) ℓˣ fˣ (x .buffer) number place blocks after → PlanOutcome x number place blocks after
+    by-one number place blocks after =
+        goes-by ℓˣ fˣ (x .buffer) one (two ∷ three ∷ four ∷ reportRules ℓˣ fˣ) number place blocks after (λ place′ g. ⊎-elim (λ h. h e) (λ h. h e′) (g .0))
+
+    pub refuses-two : 1024 < length (x .arrivals) → PlanOutcome x 2 0 0 (x .buffer)
+    refuses-two h = by-one 2 0 0 (x .buffer) (refuses ℓˣ fˣ (x .buffer) two (three ∷ four ∷ reportRules ℓˣ fˣ) 1 0 refl (h, refl))
+
+    module _ (few : length (x .arrivals) ≤ 1024) where
+      by-two : (number place blocks : ℕ) (after : List ℕ) → Outcome (three ∷ four ∷ reportRules ℓˣ fˣ) ℓˣ fˣ (x .buffer) number place blocks after → PlanOutcome x number place blocks after
+      by-two number place blocks after o =
+          by-one number place blocks after (goes-by ℓˣ fˣ (x .buffer) two (three ∷ four ∷ reportRules ℓˣ fˣ) number place blocks after (λ place′ g. omega (arith, g .0)) o)
+
+      pub refuses-three : length (x .buffer) < 5 * length (x .arrivals) → PlanOutcome x 3 0 0 (x .buffer)
+      refuses-three h = by-two 3 0 0 (x .buffer) (refuses ℓˣ fˣ (x .buffer) three (four ∷ reportRules ℓˣ fˣ) 2 0 refl (h, refl))
+
+      module _ (room : 5 * length (x .arrivals) ≤ length (x .buffer)) where
+        by-three : (number place blocks : ℕ) (after : List ℕ) → Outcome (four ∷ reportRules ℓˣ fˣ) ℓˣ fˣ (x .buffer) number place blocks after → PlanOutcome x number place blocks after
+        by-three number place blocks after o =
+            by-two number place blocks after (goes-by ℓˣ fˣ (x .buffer) three (four ∷ reportRules ℓˣ fˣ) number place blocks after (λ place′ g. omega (arith, g .0)) o)
+
+        pub refuses-four : Outside 1 65535 (x .P) ⊎ Outside 1 65535 (x .Q) → PlanOutcome x 4 0 0 (x .buffer)
+        refuses-four h = by-three 4 0 0 (x .buffer) (refuses ℓˣ fˣ (x .buffer) four (reportRules ℓˣ fˣ) 3 0 refl (h, refl))
+
+        module _ (p : Outside 1 65535 (x .P) → ⊥) (q : Outside 1 65535 (x .Q) → ⊥) where
+          pub goes-to-reports : (number place blocks : ℕ) (after : List ℕ) → Outcome (reportRules ℓˣ fˣ) ℓˣ fˣ (x .buffer) number place blocks after → PlanOutcome x number place blocks after
+          goes-to-reports number place blocks after o =
+              by-three number place blocks after (goes-by ℓˣ fˣ (x .buffer) four (reportRules ℓˣ fˣ) number place blocks after (λ place′ g. ⊎-elim p q (g .0)) o)
+
+          pub sized : Sized (x .arrivals) (x .deadlines) (x .operations) (x .buffer)
+          sized = record { deadlines-long = sym e; operations-long = sym e′; few = few; room = room }
+
+          pub paced : Paced (x .P) (x .Q)
+          paced = record {
+            p-some = within-range 1 65535 (x .P) p .0;
+            p-most = within-range 1 65535 (x .P) p .1;
+            q-some = within-range 1 65535 (x .Q) q .0;
+            q-most = within-range 1 65535 (x .Q) q .1;
           }

@@ -9,6 +9,10 @@ use Rattle.critical.specs.Reports.{Reports, listOf}
 abbrev pub offset : ℕ → ℕ → ℕ
 offset reference reading = (reading + (2 ^ 32 - reference)) % 2 ^ 32
 
+-- The reports of three lists of readings, by their offsets.
+abbrev pub offsetsOf : ℕ → List ℕ → List ℕ → List ℕ → Reports
+offsetsOf reference arrivals deadlines operations = listOf (map (offset reference) arrivals) (map (offset reference) deadlines) operations
+
 -- The three lists, the reference, P and Q, and the row buffer as it is lent.
 pub record Input : Type 0 where
   pub arrivals : List ℕ
@@ -19,9 +23,9 @@ pub record Input : Type 0 where
   pub Q : ℕ
   pub buffer : List ℕ
 
--- The reports, by their offsets.
+-- Its reports.
 abbrev pub reportsOf : Input → Reports
-reportsOf x = listOf (map (offset (x .reference)) (x .arrivals)) (map (offset (x .reference)) (x .deadlines)) (x .operations)
+reportsOf x = offsetsOf (x .reference) (x .arrivals) (x .deadlines) (x .operations)
 
 -- The fastest pace.
 abbrev pub fastestOf : Input → Fraction

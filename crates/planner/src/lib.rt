@@ -8,7 +8,8 @@ mod search;
 mod settle;
 
 ghost use mathlib.Core.Path.{_≡_};
-ghost use Rattle.planner.specs.Offsets.{Input};
+ghost use mathlib.Core.Bool.{true, false};
+ghost use Rattle.planner.specs.Rules.{Outside};
 ghost use Rattle.planner.specs.Outcome.{PlanOutcome, numberOf, placeOf, blocksOf};
 
 // The answer: the block count, or a refusal with the report it concerns. specs/Outcome.antt gives
@@ -68,4 +69,59 @@ impl Roll {
     {
         Roll { reference, p, q }
     }
+}
+
+// Whether a number is one that neither P nor Q may be.
+fn bad_pace(x: u32) -> bool
+    ensures yes { λ r. ⌜ (r ≡ true → Outside 1 65535 x) ⌝ }
+    ensures no { λ r. ⌜ (r ≡ false → Outside 1 65535 x → ⊥) ⌝ }
+{
+    if x < 1 {
+        return true;
+    }
+    if Roll::PACE < x {
+        return true;
+    }
+    false
+}
+
+// Plans a list: three lists of readings, the reference, P and Q, and a buffer for rows. What comes
+// back, and what the buffer then holds, is PlanOutcome, for every input.
+pub fn plan(
+    arrivals: &[u32],
+    deadlines: &[u32],
+    operations: &[u32],
+    reference: u32,
+    p: u32,
+    q: u32,
+    rows: &mut [u32],
+) -> Answer
+    ensures { λ r. ⌜ PlanOutcome (record { arrivals = now (arrivals .entry); deadlines = now (deadlines .entry); operations = now (operations .entry); reference = reference; P = p; Q = q; buffer = now (rows .entry) }) (numberOf r) (placeOf r) (blocksOf r) (now (rows .exit)) ⌝ }
+{
+    let n = arrivals.len();
+    if deadlines.len() != n {
+        return Answer::Lengths;
+    }
+    if operations.len() != n {
+        return Answer::Lengths;
+    }
+    if Roll::REPORTS < n {
+        return Answer::TooMany;
+    }
+    if rows.len() < 5 * n {
+        return Answer::ShortBuffer;
+    }
+    if bad_pace(p) {
+        return Answer::BadPace;
+    }
+    if bad_pace(q) {
+        return Answer::BadPace;
+    }
+    settle::settle_readings(
+        arrivals,
+        deadlines,
+        operations,
+        Roll::new(reference, p, q),
+        rows,
+    )
 }

@@ -1,20 +1,27 @@
 // The rules of the reports, on offsets, and the plan: what is left once the whole list is in order.
-use crate::blocks;
-use crate::pass;
-use crate::rules;
 use crate::Answer;
 use crate::Report;
 use crate::Roll;
+use crate::blocks;
+use crate::pass;
+use crate::rules;
 ghost use Prim.Native.Nat.{_*_, _≤_};
 ghost use lib.ListN.{length};
 ghost use Rattle.fraction.specs.Fraction.{over};
 ghost use Rattle.critical.specs.Reports.{listOf};
+ghost use Rattle.planner.specs.Offsets.{offsetsOf};
 ghost use Rattle.planner.specs.Rules.{planRule, reportRules};
 ghost use Rattle.planner.specs.Outcome.{Outcome, numberOf, placeOf, blocksOf};
 ghost use Rattle.planner.specs.Inside.{Fair, Paced, Sized};
 
 // Rule 9, decided before the first row is written, and the rows.
-fn plan_fair(arrivals: &[u32], deadlines: &[u32], operations: &[u32], roll: Roll, rows: &mut [u32]) -> Answer
+fn plan_fair(
+    arrivals: &[u32],
+    deadlines: &[u32],
+    operations: &[u32],
+    roll: Roll,
+    rows: &mut [u32],
+) -> Answer
     requires fair { ⌜ Fair (now arrivals) (now deadlines) (now operations) ⌝ }
     requires room { ⌜ 5 * length (now arrivals) ≤ length (now rows) ⌝ }
     requires pace { ⌜ Paced (roll .p) (roll .q) ⌝ }
@@ -29,7 +36,13 @@ fn plan_fair(arrivals: &[u32], deadlines: &[u32], operations: &[u32], roll: Roll
 }
 
 // Rules 5 to 9, each over the whole list before the next.
-pub fn settle(arrivals: &[u32], deadlines: &[u32], operations: &[u32], roll: Roll, rows: &mut [u32]) -> Answer
+pub fn settle(
+    arrivals: &[u32],
+    deadlines: &[u32],
+    operations: &[u32],
+    roll: Roll,
+    rows: &mut [u32],
+) -> Answer
     requires sized { ⌜ Sized (now arrivals) (now deadlines) (now operations) (now rows) ⌝ }
     requires pace { ⌜ Paced (roll .p) (roll .q) ⌝ }
     ensures { λ r. ⌜ Outcome (reportRules (listOf (now (arrivals .entry)) (now (deadlines .entry)) (now (operations .entry))) (over (roll .p) (roll .q))) (listOf (now (arrivals .entry)) (now (deadlines .entry)) (now (operations .entry))) (over (roll .p) (roll .q)) (now (rows .entry)) (numberOf r) (placeOf r) (blocksOf r) (now (rows .exit)) ⌝ }
@@ -52,4 +65,25 @@ pub fn settle(arrivals: &[u32], deadlines: &[u32], operations: &[u32], roll: Rol
         return Answer::ArrivalFalls(falls);
     }
     plan_fair(arrivals, deadlines, operations, roll, rows)
+}
+
+// Rules 5 to 9 of a list of readings: their offsets are taken once, and settled.
+pub fn settle_readings(
+    arrivals: &[u32],
+    deadlines: &[u32],
+    operations: &[u32],
+    roll: Roll,
+    rows: &mut [u32],
+) -> Answer
+    requires sized { ⌜ Sized (now arrivals) (now deadlines) (now operations) (now rows) ⌝ }
+    requires pace { ⌜ Paced (roll .p) (roll .q) ⌝ }
+    ensures { λ r. ⌜ Outcome (reportRules (offsetsOf (roll .reference) (now (arrivals .entry)) (now (deadlines .entry)) (now (operations .entry))) (over (roll .p) (roll .q))) (offsetsOf (roll .reference) (now (arrivals .entry)) (now (deadlines .entry)) (now (operations .entry))) (over (roll .p) (roll .q)) (now (rows .entry)) (numberOf r) (placeOf r) (blocksOf r) (now (rows .exit)) ⌝ }
+{
+    let n = arrivals.len();
+    let reference = roll.reference;
+    let mut from = [0u32; Roll::REPORTS];
+    let mut due = [0u32; Roll::REPORTS];
+    rules::offsets(arrivals, reference, &mut from);
+    rules::offsets(deadlines, reference, &mut due);
+    settle(&from[..n], &due[..n], operations, roll, rows)
 }

@@ -28,7 +28,7 @@ abbrev μ-loop : tie.MeasureT-loop
 
 -- src/pass.rt:40:5
 loop-holds : tie.Need-loop-holds Inv-loop μ-loop
-loop-holds c = 
+loop-holds c =
     let a = c .before .before .before .args in
     (search needs, through-zero (listOf (a .arrivals .now) (a .deadlines .now) (a .operations .now)) (a .roll .p) (a .roll .q), search needs, λ i h. absurd (not-suc-le-zero h))
 
@@ -62,7 +62,7 @@ new-requires c κs = search needs
 
 -- src/pass.rt:42:9
 finish-requires : tie.Need-finish-requires Inv-loop μ-loop
-finish-requires c κs = 
+finish-requires c κs =
     let l = c .before .before .before .before .before in
     let s = l .before .before .before .before in
     let a = s .args in
@@ -78,7 +78,7 @@ due-requires c κs = search needs
 
 -- src/pass.rt:44:13
 returns : tie.Need-returns Inv-loop μ-loop
-returns c = 
+returns c =
     let l = c .before .before .before .before .before .before .before .before in
     let s = l .before .before .before .before in
     let a = s .args in
@@ -87,7 +87,7 @@ returns c =
     let ℓ = listOf (a .arrivals .now) (a .deadlines .now) (a .operations .now) in
     let i = l .loop .i in
     let e = through-step ℓ p q (s .pre .1 .p-some) (s .pre .1 .q-some) i (l .loop .done) (c .before .before .finish .result) (l .loop .inv .1)
-          (c .before .before .finish .ensures ∙ ap (λ r. max (q * r .arrival) (l .loop .done) + r .operations * p) (c .before .before .before .new .ensures)) in
+    (c .before .before .finish .ensures ∙ ap (λ r. max (q * r .arrival) (l .loop .done) + r .operations * p) (c .before .before .before .new .ensures)) in
     let d : c .before .due .result ≡ q * getD (a .deadlines .now) i 0 = c .before .due .ensures ∙ ap (λ r. q * r .deadline) (c .before .before .before .new .ensures) in
     record {
       within = search needs;
@@ -105,7 +105,7 @@ loop-less c = search needs
 
 -- src/pass.rt:40:5
 loop-again : tie.Need-loop-again Inv-loop μ-loop
-loop-again c = 
+loop-again c =
     let l = c .before .before .before .before .before .before .before .before in
     let s = l .before .before .before .before in
     let a = s .args in
@@ -114,15 +114,17 @@ loop-again c =
     let ℓ = listOf (a .arrivals .now) (a .deadlines .now) (a .operations .now) in
     let i = l .loop .i in
     let e = through-step ℓ p q (s .pre .1 .p-some) (s .pre .1 .q-some) i (l .loop .done) (c .before .before .finish .result) (l .loop .inv .1)
-          (c .before .before .finish .ensures ∙ ap (λ r. max (q * r .arrival) (l .loop .done) + r .operations * p) (c .before .before .before .new .ensures)) in
-    let d : c .before .due .result ≡ q * getD (a .deadlines .now) i 0 = c .before .due .ensures ∙ ap (λ r. q * r .deadline) (c .before .before .before .new .ensures) in
-    (search needs, e,
-    omega (arith, c .before .before .finish .ensures ∙ ap (λ r. max (q * r .arrival) (l .loop .done) + r .operations * p) (c .before .before .before .new .ensures), through-bound (getD (a .arrivals .now) i 0) (getD (a .operations .now) i 0) p q (l .loop .done) i (s .pre .0 .arrive i (search needs)) (s .pre .1 .q-most) (s .pre .0 .work i (search needs)) (s .pre .1 .p-most) (l .loop .inv .2)),
-    holds-on ℓ p q (s .pre .1 .p-some) (s .pre .1 .q-some) i (l .loop .inv .3) (omega (arith, e, d, c .if1 .left)))
+    (c .before .before .finish .ensures ∙ ap (λ r. max (q * r .arrival) (l .loop .done) + r .operations * p) (c .before .before .before .new .ensures)) in
+    let d : c .before .due .result ≡ q * getD (a .deadlines .now) i 0 = c .before .due .ensures ∙ ap (λ r. q * r .deadline) (c .before .before .before .new .ensures) in (
+      search needs,
+      e,
+      omega (arith, c .before .before .finish .ensures ∙ ap (λ r. max (q * r .arrival) (l .loop .done) + r .operations * p) (c .before .before .before .new .ensures), through-bound (getD (a .arrivals .now) i 0) (getD (a .operations .now) i 0) p q (l .loop .done) i (s .pre .0 .arrive i (search needs)) (s .pre .1 .q-most) (s .pre .0 .work i (search needs)) (s .pre .1 .p-most) (l .loop .inv .2)),
+      holds-on ℓ p q (s .pre .1 .p-some) (s .pre .1 .q-some) i (l .loop .inv .3) (omega (arith, e, d, c .if1 .left)),
+    )
 
 -- src/pass.rt:33:1
 returns-2 : tie.Need-returns-2 Inv-loop μ-loop
-returns-2 c = 
+returns-2 c =
     let l = c .before in
     let s = l .before .before .before .before in
     let a = s .args in

@@ -14,7 +14,7 @@ first-without-requires c κs = search needs
 
 -- src/settle.rt:25:9
 returns : tie.Need-returns
-returns c = 
+returns c =
     let s = c .before .before .before .before .before .before in
     let a = s .args in
     let ℓ = listOf (a .arrivals .now) (a .deadlines .now) (a .operations .now) in
@@ -30,7 +30,7 @@ same-length c = search needs
 
 -- src/settle.rt:17:1
 returns-2 : tie.Need-returns-2
-returns-2 c = 
+returns-2 c =
     let s = c .before .before .before .before .before .before .before .before .before .before in
     let a = s .args in
     let ℓ = listOf (a .arrivals .now) (a .deadlines .now) (a .operations .now) in

@@ -15,7 +15,7 @@ first-outside-requires c κs = search needs
 
 -- src/settle.rt:40:9
 returns : tie.Need-returns
-returns c = 
+returns c =
     let s = c .before .before .before .before .before .before in
     let a = s .args in
     let f = over (a .roll .p) (a .roll .q) in
@@ -27,7 +27,7 @@ first-outside-requires-2 c κs = search needs
 
 -- src/settle.rt:44:9
 returns-2 : tie.Need-returns-2
-returns-2 c = 
+returns-2 c =
     let s = c .before .before .before .before .before .before .before .before in
     let a = s .args in
     let f = over (a .roll .p) (a .roll .q) in
@@ -39,7 +39,7 @@ first-outside-requires-3 c κs = search needs
 
 -- src/settle.rt:48:9
 returns-3 : tie.Need-returns-3
-returns-3 c = 
+returns-3 c =
     let s = c .before .before .before .before .before .before .before .before .before .before in
     let a = s .args in
     let f = over (a .roll .p) (a .roll .q) in
@@ -51,7 +51,7 @@ first-fall-requires c κs = search needs
 
 -- src/settle.rt:52:9
 returns-4 : tie.Need-returns-4
-returns-4 c = 
+returns-4 c =
     let s = c .before .before .before .before .before .before .before .before .before .before .before .before in
     let a = s .args in
     let f = over (a .roll .p) (a .roll .q) in
@@ -59,7 +59,7 @@ returns-4 c =
 
 -- src/settle.rt:54:5
 plan-fair-requires : tie.Need-plan-fair-requires
-plan-fair-requires c κs = 
+plan-fair-requires c κs =
     let s = c .before .before .before .before .before .before .before .before .before .before .before .before .before in
     let a = s .args in
     let f = over (a .roll .p) (a .roll .q) in
@@ -71,7 +71,7 @@ same-length c = search needs
 
 -- src/settle.rt:32:1
 returns-5 : tie.Need-returns-5
-returns-5 c = 
+returns-5 c =
     let s = c .before .before .before .before .before .before .before .before .before .before .before .before .before .before .before .before in
     let a = s .args in
     let f = over (a .roll .p) (a .roll .q) in
