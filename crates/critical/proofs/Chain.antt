@@ -45,10 +45,13 @@ module _ (ℓ : Reports) (f : Fraction) (m : ℕ) (rows rows′ : ℕ → Row) (
   behind-same zero h = refl
   behind-same (suc k) h = ap (λ (r : Row). suc (r .last)) (same k h)
 
+  pub chain-same : Chain ℓ f m rows → Chain ℓ f m rows′
+  chain-same c k x = rw (← begins-same k (omega arith), ← behind-same k (omega arith), ← same k x) (c k x)
+
   pub chain-more : Chain ℓ f m rows → Link ℓ f (begins ℓ rows m) (behind rows m) (rows′ m) → Chain ℓ f (suc m) rows′
   chain-more c l k h =
       ⊎-elim (λ (e : k ≡ m). rw (e, ← begins-same m (le-refl m), ← behind-same m (le-refl m)) l)
-      (λ x. rw (← begins-same k (omega arith), ← behind-same k (omega arith), ← same k x) (c k x)) (eq-or-lt-of-le (le-of-suc-le-suc h))
+      (λ x. chain-same c k x) (eq-or-lt-of-le (le-of-suc-le-suc h))
 
 -- ---- what stands behind a row: the stretch goes on and the next row starts at this row's end, or there is idle time
 module _ (ℓ : Reports) (f : Fraction) (s p : ℕ) (r : Row) (l : Link ℓ f s p r) where

@@ -41,6 +41,11 @@ module _ (m : ℕ) (rows : ℕ → Row) (fl : Follow m rows) where
       ⊎-elim (λ (e : k ≡ suc n). rw e (le-refl (behind rows (suc n))))
       (λ x. omega (arith, behind-mono k n (le-of-suc-le-suc x) (omega arith), behind-suc rows n, fl .follows n l, fl .holds n l)) (eq-or-lt-of-le h)
 
+  -- there are no more rows than reports
+  pub few-rows : (n : ℕ) → n ≤ m → n ≤ behind rows n
+  few-rows zero l = omega arith
+  few-rows (suc n) l = omega (arith, few-rows n (omega arith), behind-suc rows n, fl .follows n l, fl .holds n l)
+
   -- every report before the end is in a row
   pub row-of : (n i : ℕ) → n ≤ m → i < behind rows n → (k : ℕ) × InRow m rows i k
   row-of zero i l h = absurd (omega (arith, behind-zero rows))

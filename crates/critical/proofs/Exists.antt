@@ -64,9 +64,11 @@ module _ (ℓ : Reports) (f : Fraction) (roomy : Roomy ℓ f) (working : Working
           (chain-more ℓ f m rows rows′ (put-before rows m r) ch (subst (Link ℓ f (begins ℓ rows m) (behind rows m)) (sym (put-at rows m r)) link))
           (omega (arith, found .2 .within, st .on-list)) (omega (arith, found .2 .ordered))
 
-  pub exists : Positive f → (m : ℕ) × (rows : ℕ → Row) × Critical ℓ f m rows
+  pub exists-chain : (m : ℕ) × (rows : ℕ → Row) × Chain ℓ f m rows × (behind rows m ≡ ℓ .count)
   unfolding Done
-  exists pos =
+  exists-chain =
       let none : ℕ → Row = λ k. record { first = 0; last = 0; start = 0; end = 0; operations = 0 } in
-      let d = build (ℓ .count) zero none (λ k h. absurd (not-suc-le-zero h)) (omega (arith, behind-zero none)) (omega (arith, behind-zero none)) in
-      (d .0, d .1, chain-critical ℓ f (d .0) (d .1) (d .2) working pos (d .3))
+      build (ℓ .count) zero none (λ k h. absurd (not-suc-le-zero h)) (omega (arith, behind-zero none)) (omega (arith, behind-zero none))
+
+  pub exists : Positive f → (m : ℕ) × (rows : ℕ → Row) × Critical ℓ f m rows
+  exists pos = let d = exists-chain in (d .0, d .1, chain-critical ℓ f (d .0) (d .1) (d .2) working pos (d .3))

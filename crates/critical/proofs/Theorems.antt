@@ -14,6 +14,7 @@ use Rattle.critical.specs.Cost.{sumAt, slackAt, Cost, Flatter, bill, NoH
 use Rattle.critical.proofs.Runs.{arrives}
 use Rattle.critical.proofs.Room.{steady, HoldsTo, Roomy, plan-holds, holds-plan, stops-first, first-holds, first-stops, runs, shorter, holds-roomy, roomy-holds}
 use Rattle.critical.proofs.Search.{Stretch, Found, Best, Leaves, _≻_, _≽_, Ready, Scan, way, floor, high, low, rowOf}
+use Rattle.critical.proofs.Cover.{few-rows}
 use Rattle.critical.proofs.Chain.{Chain, Link}
 use Rattle.critical.proofs.Least as Least
 use Rattle.critical.proofs.Costs as Costs
@@ -199,6 +200,11 @@ critical-exists ℓ fastest working pos =
     (λ c. (planOf (c .0) (c .1), c .2 .plan .allowed), λ p. Exists.exists ℓ fastest (room-decides ℓ fastest pos .0 p) working pos)
 
 -- ---- What else 01 says of blocks
+
+-- The block count is at most the number of reports.
+pub few-blocks : (ℓ : Reports) (fastest : Fraction) (m : ℕ) (rows : ℕ → Row) → Critical ℓ fastest m rows → m ≤ ℓ .count
+few-blocks ℓ fastest m rows c =
+    omega (arith, few-rows m rows (record { follows = c .follows; holds = c .holds }) m (omega arith), c .covers)
 
 -- Where the arrival of i+1 is later than the deadline of i there is idle time (property 1).
 pub idle-there :

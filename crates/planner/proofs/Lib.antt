@@ -4,3 +4,5 @@ pub mod Searching
 pub mod Writing
 pub mod Building
 pub mod Outcomes
+pub mod OneResult
+pub mod SomeResult
