@@ -6,3 +6,4 @@ pub mod Building
 pub mod Outcomes
 pub mod OneResult
 pub mod SomeResult
+pub mod Demands

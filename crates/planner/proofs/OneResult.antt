@@ -61,7 +61,7 @@ none-at-fault n F h i l f = go i i (le-refl i) l f
     go (suc m) i k l f = h i (record { on-list = l; at-fault = f; least = λ j e. go m j (omega arith) (omega arith) })
 
 -- an accepted list has reports with something to do
-works : (x : Input) → Accepted (wholeRules x ++ reportRules (reportsOf x) (fastestOf x)) → Working (reportsOf x)
+pub works : (x : Input) → Accepted (wholeRules x ++ reportRules (reportsOf x) (fastestOf x)) → Working (reportsOf x)
 unfolding Accepted
 works x a i h =
     within-range 1 65535 (reportsOf x .operations i) (none-at-fault (reportsOf x .count) (λ j. Outside 1 65535 (reportsOf x .operations j)) (a .1 .1 .1 .1 .0) i h) .0

@@ -59,12 +59,15 @@ written ℓ f b working pos plan room =
     let m : ℕ = d .0 in
     let rows : ℕ → Row = d .1 in
     let few : m ≤ ℓ .count = omega (arith, few-rows m rows (record { follows = λ k h. d .2 k h .first; holds = λ k h. d .2 k h .found .ordered }) m (le-refl m), d .3) in
-    let same : (k : ℕ) → k < m → rows k ≡ rowAt (fill b m rows) k = fill-row b rows m (omega (arith, few)) in
-    (m, fill b m rows, record {
-      rows = chain-critical ℓ f m (rowAt (fill b m rows)) (chain-same ℓ f m rows (rowAt (fill b m rows)) same (d .2)) working pos (sym (behind-same ℓ f m rows (rowAt (fill b m rows)) same m (le-refl m)) ∙ d .3);
-      as-long = fill-length b rows m;
-      behind = fill-behind b rows m;
-    })
+    let same : (k : ℕ) → k < m → rows k ≡ rowAt (fill b m rows) k = fill-row b rows m (omega (arith, few)) in (
+      m,
+      fill b m rows,
+      record {
+        rows = chain-critical ℓ f m (rowAt (fill b m rows)) (chain-same ℓ f m rows (rowAt (fill b m rows)) same (d .2)) working pos (sym (behind-same ℓ f m rows (rowAt (fill b m rows)) same m (le-refl m)) ∙ d .3);
+        as-long = fill-length b rows m;
+        behind = fill-behind b rows m;
+      },
+    )
 
 -- ---- the rules, decided
 -- a rule is given somewhere, or silent
@@ -79,8 +82,8 @@ try-least n F d = ⊎-elim (λ (f : (p : ℕ) × Least n F p). inl f) (λ h. inr
     go zero h = inr (λ i l. absurd (not-suc-le-zero l))
     go (suc m) h =
         let here : ((i : ℕ) → i < m → F i → ⊥) → ((p : ℕ) × Least n F p) ⊎ ((i : ℕ) → i < suc m → F i → ⊥) =
-            λ k. ⊎-elim (λ (f : F m). inl (m, record { on-list = h; at-fault = f; least = k }))
-              (λ no-m. inr (λ i l. ⊎-elim (λ (e : i ≡ m). subst (λ (j : ℕ). F j → ⊥) (sym e) no-m) (λ s. k i s) (eq-or-lt-of-le (le-of-suc-le-suc l)))) (d m) in
+        λ k. ⊎-elim (λ (f : F m). inl (m, record { on-list = h; at-fault = f; least = k }))
+        (λ no-m. inr (λ i l. ⊎-elim (λ (e : i ≡ m). subst (λ (j : ℕ). F j → ⊥) (sym e) no-m) (λ s. k i s) (eq-or-lt-of-le (le-of-suc-le-suc l)))) (d m) in
         ⊎-elim (λ f. inl f) here (go m (omega arith))
 
 try-outside : (low high x : ℕ) → Outside low high x ⊎ (Outside low high x → ⊥)
@@ -137,7 +140,7 @@ module _ (x : Input) where
   some-plan pos working room =
       ⊎-elim
       (λ (plan : Plannable ℓ f). some-more ℓ f (x .buffer) _ [] 8 refl (inr (λ p w. not-both ℓ f p plan w))
-        (λ s. let w = written ℓ f (x .buffer) working pos plan room in (0, 0, w .0, w .1, plans ℓ f (x .buffer) (w .0) (w .1) (w .2))))
+      (λ s. let w = written ℓ f (x .buffer) working pos plan room in (0, 0, w .0, w .1, plans ℓ f (x .buffer) (w .0) (w .1) (w .2))))
       (λ (w : (i : ℕ) × FirstWithout ℓ f i). some-more ℓ f (x .buffer) _ [] 8 refl (inl w) (λ s. absurd (s (w .0) (w .1))))
       (plan-or-refusal ℓ f pos)
 
@@ -149,7 +152,7 @@ module _ (x : Input) where
       (λ s₆. some-more ℓ f (x .buffer) _ _ 6 refl (try-least (ℓ .count) (λ i. 2147483647 < ℓ .deadline i) (λ i. try-above 2147483647 (ℓ .deadline i)))
       (λ s₇. some-more ℓ f (x .buffer) _ _ 7 refl (try-least (ℓ .count) (Falls (ℓ .arrival)) (try-falls (ℓ .arrival)))
       (λ s₈. some-plan pos
-        (λ i h. within-range 1 65535 (ℓ .operations i) (none-at-fault (ℓ .count) (λ j. Outside 1 65535 (ℓ .operations j)) s₅ i h) .0) room))))
+      (λ i h. within-range 1 65535 (ℓ .operations i) (none-at-fault (ℓ .count) (λ j. Outside 1 65535 (ℓ .operations j)) s₅ i h) .0) room))))
 
   -- There is a result for each input.
   pub some-result : (number : ℕ) × (place : ℕ) × (blocks : ℕ) × (after : List ℕ) × PlanOutcome x number place blocks after
@@ -160,4 +163,4 @@ module _ (x : Input) where
       (λ s₂. some-more ℓ f (x .buffer) _ _ 2 refl (try-whole _ (try-above (length (x .buffer)) (5 * length (x .arrivals))))
       (λ s₃. some-more ℓ f (x .buffer) _ _ 3 refl (try-whole _ (try-paces (x .P) (x .Q)))
       (λ s₄. some-reports (within-range 1 65535 (x .P) (λ o. s₄ 0 (inl o, refl)) .0)
-        (omega (arith, length-map (offset (x .reference)) (x .arrivals), cases (length (x .buffer)) (5 * length (x .arrivals)) (λ l. absurd (s₃ 0 (l, refl))) (λ g. g)))))))
+      (omega (arith, length-map (offset (x .reference)) (x .arrivals), cases (length (x .buffer)) (5 * length (x .arrivals)) (λ l. absurd (s₃ 0 (l, refl))) (λ g. g)))))))

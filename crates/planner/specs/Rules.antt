@@ -51,18 +51,22 @@ wholeRules x =
     ∷ rule 4 (Whole (Outside 1 65535 (x .P) ⊎ Outside 1 65535 (x .Q)))
     ∷ []
 
--- The last rule: 9, no allowed plan.
-abbrev pub planRule : Reports → Fraction → List Rule
-planRule ℓ fastest = rule 9 (FirstWithout ℓ fastest) ∷ []
-
--- The rules of its reports: 5, operations outside 1 to 65,535; 6 and 7, arrival and deadline offset above 2,147,483,647; 8, arrivals that fall; then 9.
-abbrev pub reportRules : Reports → Fraction → List Rule
-reportRules ℓ fastest =
+-- The rules of its reports: 5, operations outside 1 to 65,535; 6 and 7, arrival and deadline offset above 2,147,483,647; 8, arrivals that fall.
+abbrev pub formRules : Reports → List Rule
+formRules ℓ =
     rule 5 (Least (ℓ .count) (λ i. Outside 1 65535 (ℓ .operations i)))
     ∷ rule 6 (Least (ℓ .count) (λ i. 2147483647 < ℓ .arrival i))
     ∷ rule 7 (Least (ℓ .count) (λ i. 2147483647 < ℓ .deadline i))
     ∷ rule 8 (Least (ℓ .count) (Falls (ℓ .arrival)))
-    ∷ planRule ℓ fastest
+    ∷ []
+
+-- The last rule: 9, no allowed plan.
+abbrev pub planRule : Reports → Fraction → List Rule
+planRule ℓ fastest = rule 9 (FirstWithout ℓ fastest) ∷ []
+
+-- The rules that speak of reports.
+abbrev pub reportRules : Reports → Fraction → List Rule
+reportRules ℓ fastest = formRules ℓ ++ planRule ℓ fastest
 
 -- A rule is not given.
 abbrev pub Silent : Rule → Type 0
