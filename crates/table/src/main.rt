@@ -1,0 +1,133 @@
+// Runs every row of 01's table through plan, and each refusal, and writes two lines for each: number,
+// place and block count; then the buffer, whose 30 numbers are all 7 beforehand.
+use libc::STDOUT_FILENO;
+use planner::Answer;
+
+// Writes a number and a space.
+fn show(n: u64) {
+    io::print_decimal(STDOUT_FILENO, n);
+    io::write_all(STDOUT_FILENO, b" ");
+}
+
+fn wide(n: u32) -> u64 {
+    n as u64
+}
+
+fn line() {
+    io::write_all(STDOUT_FILENO, b"\n");
+}
+
+// 01's number of an answer.
+fn number(answer: Answer) -> u64 {
+    match answer {
+        Answer::Planned(_) => 0,
+        Answer::Lengths => 1,
+        Answer::TooMany => 2,
+        Answer::ShortBuffer => 3,
+        Answer::BadPace => 4,
+        Answer::BadOperations(_) => 5,
+        Answer::BadArrival(_) => 6,
+        Answer::BadDeadline(_) => 7,
+        Answer::ArrivalFalls(_) => 8,
+        Answer::NoPlan(_) => 9,
+    }
+}
+
+// The report it concerns, 0 where no report is.
+fn place(answer: Answer) -> usize {
+    match answer {
+        Answer::BadOperations(i) => i,
+        Answer::BadArrival(i) => i,
+        Answer::BadDeadline(i) => i,
+        Answer::ArrivalFalls(i) => i,
+        Answer::NoPlan(i) => i,
+        _ => 0,
+    }
+}
+
+// The block count, 0 on a refusal.
+fn blocks(answer: Answer) -> usize {
+    match answer {
+        Answer::Planned(n) => n,
+        _ => 0,
+    }
+}
+
+// All numbers of a list, on one line.
+fn show_all(xs: &[u32]) {
+    let mut i = 0;
+    while i < xs.len() {
+        show(wide(xs[i]));
+        i += 1;
+    }
+    line();
+}
+
+// One row of the table. The buffer has 30 numbers, more than any row needs.
+fn run(arrivals: &[u32], deadlines: &[u32], operations: &[u32], reference: u32, p: u32, q: u32) {
+    let mut buffer = [7u32; 30];
+    let answer = planner::plan(
+        arrivals,
+        deadlines,
+        operations,
+        reference,
+        p,
+        q,
+        &mut buffer,
+    );
+    show(number(answer));
+    show(place(answer) as u64);
+    show(blocks(answer) as u64);
+    line();
+    show_all(&buffer);
+}
+
+// The starred rows, in 01's order.
+fn starred() {
+    let none = [0u32; 0];
+    run(&none, &none, &none, 0, 1, 1);
+    run(&[0], &[10], &[4], 0, 1, 1);
+    run(&[0], &[4], &[4], 0, 1, 1);
+    run(&[0], &[4], &[5], 0, 1, 1);
+    run(&[0, 0], &[4, 12], &[2, 2], 0, 1, 1);
+    run(&[0, 6], &[10, 10], &[2, 2], 0, 1, 1);
+    run(&[0, 10], &[4, 14], &[2, 2], 0, 1, 1);
+    run(&[0, 4], &[4, 8], &[2, 2], 0, 1, 1);
+    run(&[0, 0], &[10, 5], &[3, 2], 0, 1, 1);
+    run(&[0, 0, 9, 9], &[6, 20, 20, 12], &[2, 2, 1, 1], 0, 1, 1);
+    run(&[0, 0, 12], &[4, 20, 16], &[2, 2, 2], 0, 1, 1);
+}
+
+// The others, and the list with a wrapped reference.
+fn others() {
+    run(&[0], &[2], &[3], 0, 2, 3);
+    run(&[0], &[2], &[4], 0, 2, 3);
+    run(&[0], &[2147483647], &[1], 0, 1, 1);
+    run(&[0], &[2147483648], &[1], 0, 1, 1);
+    run(&[5, 4], &[20, 20], &[2, 2], 0, 1, 1);
+    run(&[5, 4], &[20, 20], &[2, 0], 0, 1, 1);
+    run(&[4294967295, 3], &[9, 14], &[2, 2], 4294967290, 1, 1);
+}
+
+// Refusals that the table does not show: 1, 2, 3, 4, 6, and the edges of 5 and 9.
+fn refused() {
+    run(&[0, 0], &[4], &[2, 2], 0, 1, 1);
+    run(&[0], &[4], &[2, 2], 0, 1, 1);
+    run(&[0u32; 1025], &[0u32; 1025], &[0u32; 1025], 0, 0, 0);
+    run(&[0u32; 1024], &[0u32; 1024], &[0u32; 1024], 0, 0, 0);
+    run(&[0u32; 7], &[9u32; 7], &[1u32; 7], 0, 0, 0);
+    run(&[0], &[4], &[0], 0, 0, 1);
+    run(&[0], &[4], &[0], 0, 1, 0);
+    run(&[0], &[4], &[0], 0, 65536, 1);
+    run(&[0], &[4], &[0], 0, 1, 65536);
+    run(&[0, 0], &[90000, 90000], &[65535, 65536], 0, 1, 1);
+    run(&[3, 2], &[9, 9], &[1, 1], 3, 1, 1);
+    run(&[0, 8], &[9, 8], &[1, 1], 0, 1, 1);
+    run(&[0, 8], &[9, 3], &[1, 1], 0, 1, 1);
+}
+
+fn main() {
+    starred();
+    others();
+    refused();
+}
