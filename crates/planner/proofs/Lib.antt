@@ -7,3 +7,4 @@ pub mod Outcomes
 pub mod OneResult
 pub mod SomeResult
 pub mod Demands
+pub mod WrongAnswers
