@@ -1,3 +1,4 @@
 pub mod Scale
 pub mod Order
 pub mod Product
+pub mod OneResult

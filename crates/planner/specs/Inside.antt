@@ -4,13 +4,15 @@ use Prim.Native.Nat.{ℕ, suc, _+_, _*_, _-_, _≤_, _<_}
 use mathlib.Core.Path.{_≡_}
 use mathlib.Core.List.{List}
 use lib.ListN.{length, getD, set}
-use Rattle.fraction.specs.Fraction.{Fraction}
+use Rattle.fraction.specs.Fraction.{Fraction, over}
 use Rattle.critical.specs.Reports.{Reports, Positive, Plannable, FirstWithout}
 use Rattle.critical.specs.Rows.{Critical}
 use Rattle.critical.proofs.Lines.{span}
 use Rattle.critical.proofs.Room.{Roomy}
 use Rattle.critical.proofs.Search.{Stretch, Scan, Found, Ready, floor, rowOf}
-use Rattle.planner.specs.Outcome.{rowAt}
+use Rattle.planner.specs.Rules.{Rule}
+use Rattle.planner.specs.Outcome.{rowAt, Outcome, numberOf, placeOf, blocksOf}
+use Rattle.planner.specs.declared.Answer.{Answer}
 use Rattle.planner.specs.declared.search.Mark.{Mark}
 use Rattle.planner.specs.declared.search.Kept.{Kept}
 use Rattle.planner.specs.declared.search.End.{End}
@@ -111,3 +113,8 @@ pub record BlocksIn (ℓ : Reports) (before : List ℕ) (blocks : ℕ) (after : 
   pub as-long : length after ≡ length before
   pub rest : (i : ℕ) → 5 * blocks ≤ i → getD after i 0 ≡ getD before i 0
   pub rows : (fastest : Fraction) → Positive fastest → Roomy ℓ fastest → Critical ℓ fastest blocks (rowAt after)
+
+-- An answer, by some of the rules, for a list of offsets and the pace p/q.
+abbrev pub Settles : (Reports → Fraction → List Rule) → Reports → ℕ → ℕ → List ℕ → Answer → List ℕ → Type 0
+Settles rules ℓ p q before answer after =
+    Outcome (rules ℓ (over p q)) ℓ (over p q) before (numberOf answer) (placeOf answer) (blocksOf answer) after

@@ -7,12 +7,10 @@ use crate::pass;
 use crate::rules;
 ghost use Prim.Native.Nat.{_*_, _≤_};
 ghost use lib.ListN.{length};
-ghost use Rattle.fraction.specs.Fraction.{over};
 ghost use Rattle.critical.specs.Reports.{listOf};
 ghost use Rattle.planner.specs.Offsets.{offsetsOf};
 ghost use Rattle.planner.specs.Rules.{planRule, reportRules};
-ghost use Rattle.planner.specs.Outcome.{Outcome, numberOf, placeOf, blocksOf};
-ghost use Rattle.planner.specs.Inside.{Fair, Paced, Sized};
+ghost use Rattle.planner.specs.Inside.{Fair, Paced, Settles, Sized};
 
 // Rule 9, decided before the first row is written, and the rows.
 fn plan_fair(
@@ -25,7 +23,7 @@ fn plan_fair(
     requires fair { ⌜ Fair (now arrivals) (now deadlines) (now operations) ⌝ }
     requires room { ⌜ 5 * length (now arrivals) ≤ length (now rows) ⌝ }
     requires pace { ⌜ Paced (roll .p) (roll .q) ⌝ }
-    ensures { λ r. ⌜ Outcome (planRule (listOf (now (arrivals .entry)) (now (deadlines .entry)) (now (operations .entry))) (over (roll .p) (roll .q))) (listOf (now (arrivals .entry)) (now (deadlines .entry)) (now (operations .entry))) (over (roll .p) (roll .q)) (now (rows .entry)) (numberOf r) (placeOf r) (blocksOf r) (now (rows .exit)) ⌝ }
+    ensures { λ r. ⌜ Settles planRule (listOf (now (arrivals .entry)) (now (deadlines .entry)) (now (operations .entry))) (roll .p) (roll .q) (now (rows .entry)) r (now (rows .exit)) ⌝ }
 {
     let without = pass::first_without(arrivals, deadlines, operations, roll);
     if without < arrivals.len() {
@@ -45,7 +43,7 @@ pub fn settle(
 ) -> Answer
     requires sized { ⌜ Sized (now arrivals) (now deadlines) (now operations) (now rows) ⌝ }
     requires pace { ⌜ Paced (roll .p) (roll .q) ⌝ }
-    ensures { λ r. ⌜ Outcome (reportRules (listOf (now (arrivals .entry)) (now (deadlines .entry)) (now (operations .entry))) (over (roll .p) (roll .q))) (listOf (now (arrivals .entry)) (now (deadlines .entry)) (now (operations .entry))) (over (roll .p) (roll .q)) (now (rows .entry)) (numberOf r) (placeOf r) (blocksOf r) (now (rows .exit)) ⌝ }
+    ensures { λ r. ⌜ Settles reportRules (listOf (now (arrivals .entry)) (now (deadlines .entry)) (now (operations .entry))) (roll .p) (roll .q) (now (rows .entry)) r (now (rows .exit)) ⌝ }
 {
     let n = arrivals.len();
     let busy = rules::first_outside(operations, 1, Report::OPERATIONS);
@@ -77,7 +75,7 @@ pub fn settle_readings(
 ) -> Answer
     requires sized { ⌜ Sized (now arrivals) (now deadlines) (now operations) (now rows) ⌝ }
     requires pace { ⌜ Paced (roll .p) (roll .q) ⌝ }
-    ensures { λ r. ⌜ Outcome (reportRules (offsetsOf (roll .reference) (now (arrivals .entry)) (now (deadlines .entry)) (now (operations .entry))) (over (roll .p) (roll .q))) (offsetsOf (roll .reference) (now (arrivals .entry)) (now (deadlines .entry)) (now (operations .entry))) (over (roll .p) (roll .q)) (now (rows .entry)) (numberOf r) (placeOf r) (blocksOf r) (now (rows .exit)) ⌝ }
+    ensures { λ r. ⌜ Settles reportRules (offsetsOf (roll .reference) (now (arrivals .entry)) (now (deadlines .entry)) (now (operations .entry))) (roll .p) (roll .q) (now (rows .entry)) r (now (rows .exit)) ⌝ }
 {
     let n = arrivals.len();
     let reference = roll.reference;

@@ -1,3 +1,5 @@
+-- `planner::bad_pace` meets its contract.
+-- Assumes nothing.
 use Prim.Native.Nat.{ℕ}
 use mathlib.Core.Path.{_≡_}
 use mathlib.Core.Logic.{inl, inr}
@@ -5,18 +7,13 @@ use native.Mathlib.Omega.{arith}
 use Rattle.planner.proofs.Laws.{inside}
 use Rattle.planner.proofs.bad_pace.Statement.{statement}
 use Rattle.planner.proofs.bad_pace.Tie as tie
-use Rattle.planner.proofs.bad_pace.Reads as reads
-use Rattle.planner.proofs.bad_pace.Lts as lts
 
--- src/lib.rt:80:9
 returns : tie.Need-returns
 returns c = (λ _. inl (c .if1 .taken), λ e. let z : _≡_ {A = ℕ} 0 1 = cc in absurd (omega arith))
 
--- src/lib.rt:83:9
 returns-2 : tie.Need-returns-2
 returns-2 c = (λ _. inr (c .if2 .taken), λ e. let z : _≡_ {A = ℕ} 0 1 = cc in absurd (omega arith))
 
--- src/lib.rt:75:1
 returns-3 : tie.Need-returns-3
 returns-3 c = (λ e. let z : _≡_ {A = ℕ} 0 1 = cc in absurd (omega arith), λ _. inside 1 65535 _ (c .before .if1 .left) (c .if2 .left))
 

@@ -1,3 +1,5 @@
+-- `planner::plan` meets its contract: rules 1 to 4, one after the other, and then the rules of the reports.
+-- Assumes nothing.
 use borrow.Author.Needs.{needs}
 use mathlib.Core.Path.{sym, subst}
 use mathlib.Core.Logic.{inl, inr}
@@ -9,13 +11,7 @@ use Rattle.planner.specs.Inside.{Paced}
 use Rattle.planner.proofs.Outcomes.{refuses-one, refuses-two, refuses-three, refuses-four, goes-to-reports, sized, paced}
 use Rattle.planner.proofs.plan.Statement.{statement}
 use Rattle.planner.proofs.plan.Tie as tie
-use Rattle.planner.proofs.plan.Reads as reads
-use Rattle.planner.proofs.plan.Lts as lts
-use Rattle.planner.proofs.Roll.new.Reads as new-reads
-use Rattle.planner.proofs.bad_pace.Reads as bad-pace-reads
-use Rattle.planner.proofs.settle.settle_readings.Reads as settle-readings-reads
 
--- src/lib.rt:95:9
 returns : tie.Need-returns
 returns c =
     let s = c .before .before .before .before .before in
@@ -23,7 +19,6 @@ returns c =
     let x : Input = record { arrivals = a .arrivals .now; deadlines = a .deadlines .now; operations = a .operations .now; reference = a .reference; P = a .p; Q = a .q; buffer = a .rows .now } in
     refuses-one x (inl (λ e. c .if1 .taken (sym e)))
 
--- src/lib.rt:98:9
 returns-2 : tie.Need-returns-2
 returns-2 c =
     let s = c .before .before .before .before .before .before in
@@ -31,7 +26,6 @@ returns-2 c =
     let x : Input = record { arrivals = a .arrivals .now; deadlines = a .deadlines .now; operations = a .operations .now; reference = a .reference; P = a .p; Q = a .q; buffer = a .rows .now } in
     refuses-one x (inr (λ e. c .if2 .taken (sym e)))
 
--- src/lib.rt:101:9
 returns-3 : tie.Need-returns-3
 returns-3 c =
     let s = c .before .before .before .before .before .before .before in
@@ -39,11 +33,9 @@ returns-3 c =
     let x : Input = record { arrivals = a .arrivals .now; deadlines = a .deadlines .now; operations = a .operations .now; reference = a .reference; P = a .p; Q = a .q; buffer = a .rows .now } in
     refuses-two x (sym (c .before .before .if1 .left)) (sym (c .before .if2 .left)) (c .if3 .taken)
 
--- src/lib.rt:103:21
 mul-if4 : tie.Need-mul-if4
 mul-if4 c = search needs
 
--- src/lib.rt:104:9
 returns-4 : tie.Need-returns-4
 returns-4 c =
     let s = c .before .before .before .before .before .before .before .before in
@@ -51,11 +43,9 @@ returns-4 c =
     let x : Input = record { arrivals = a .arrivals .now; deadlines = a .deadlines .now; operations = a .operations .now; reference = a .reference; P = a .p; Q = a .q; buffer = a .rows .now } in
     refuses-three x (sym (c .before .before .before .if1 .left)) (sym (c .before .before .if2 .left)) (c .before .if3 .left) (c .if4 .taken)
 
--- src/lib.rt:106:9
 bad-pace-requires : tie.Need-bad-pace-requires
 bad-pace-requires c κs = search needs
 
--- src/lib.rt:107:9
 returns-5 : tie.Need-returns-5
 returns-5 c =
     let s = c .before .before .before .before .before .before .before .before .before .before in
@@ -63,11 +53,9 @@ returns-5 c =
     let x : Input = record { arrivals = a .arrivals .now; deadlines = a .deadlines .now; operations = a .operations .now; reference = a .reference; P = a .p; Q = a .q; buffer = a .rows .now } in
     refuses-four x (sym (c .before .before .before .before .before .if1 .left)) (sym (c .before .before .before .before .if2 .left)) (c .before .before .before .if3 .left) (c .before .before .if4 .left) (inl (c .before .bad-pace .ensures .0 (c .if5 .taken)))
 
--- src/lib.rt:109:9
 bad-pace-requires-2 : tie.Need-bad-pace-requires-2
 bad-pace-requires-2 c κs = search needs
 
--- src/lib.rt:110:9
 returns-6 : tie.Need-returns-6
 returns-6 c =
     let s = c .before .before .before .before .before .before .before .before .before .before .before .before in
@@ -75,11 +63,9 @@ returns-6 c =
     let x : Input = record { arrivals = a .arrivals .now; deadlines = a .deadlines .now; operations = a .operations .now; reference = a .reference; P = a .p; Q = a .q; buffer = a .rows .now } in
     refuses-four x (sym (c .before .before .before .before .before .before .before .if1 .left)) (sym (c .before .before .before .before .before .before .if2 .left)) (c .before .before .before .before .before .if3 .left) (c .before .before .before .before .if4 .left) (inr (c .before .bad-pace2 .ensures .0 (c .if6 .taken)))
 
--- src/lib.rt:112:62
 new-requires : tie.Need-new-requires
 new-requires c κs = search needs
 
--- src/lib.rt:112:5
 settle-readings-requires : tie.Need-settle-readings-requires
 settle-readings-requires c κs =
     let s = c .before .before .before .before .before .before .before .before .before .before .before .before .before .before in
@@ -87,11 +73,9 @@ settle-readings-requires c κs =
     let x : Input = record { arrivals = a .arrivals .now; deadlines = a .deadlines .now; operations = a .operations .now; reference = a .reference; P = a .p; Q = a .q; buffer = a .rows .now } in
     (sized x (sym (c .before .before .before .before .before .before .before .before .before .if1 .left)) (sym (c .before .before .before .before .before .before .before .before .if2 .left)) (c .before .before .before .before .before .before .before .if3 .left) (c .before .before .before .before .before .before .if4 .left) (c .before .before .before .before .before .bad-pace .ensures .1 (c .before .before .before .before .if5 .left)) (c .before .before .before .bad-pace2 .ensures .1 (c .before .before .if6 .left)), subst (λ r. Paced (r .p) (r .q)) (sym (c .before .new .ensures)) (paced x (sym (c .before .before .before .before .before .before .before .before .before .if1 .left)) (sym (c .before .before .before .before .before .before .before .before .if2 .left)) (c .before .before .before .before .before .before .before .if3 .left) (c .before .before .before .before .before .before .if4 .left) (c .before .before .before .before .before .bad-pace .ensures .1 (c .before .before .before .before .if5 .left)) (c .before .before .before .bad-pace2 .ensures .1 (c .before .before .if6 .left))))
 
--- src/lib.rt:90:1
 same-length : tie.Need-same-length
 same-length c = search needs
 
--- src/lib.rt:90:1
 returns-7 : tie.Need-returns-7
 returns-7 c =
     let s = c .before .before .before .before .before .before .before .before .before .before .before .before .before .before .before .before .before in

@@ -1,3 +1,6 @@
+-- `planner::blocks::blocks` meets its contract. The inner loop keeps what the search keeps (`KeptIs`), and takes one report a turn; the outer loop keeps what is built so
+-- far (`Building`), and its measure is what is left of the list.
+-- Assumes nothing.
 use borrow.Author.Needs.{needs}
 use Prim.Native.Nat.{_+_, _-_}
 use mathlib.Core.Path.{sym, subst}
@@ -9,12 +12,6 @@ use Rattle.planner.proofs.Building.{Building, builds-from-nothing, buil
 use Rattle.planner.proofs.Searching.{step-ends, step-goes}
 use Rattle.planner.proofs.blocks.blocks.Statement.{statement}
 use Rattle.planner.proofs.blocks.blocks.Tie as tie
-use Rattle.planner.proofs.blocks.blocks.Reads as reads
-use Rattle.planner.proofs.blocks.blocks.Lts as lts
-use Rattle.planner.proofs.blocks.later.Reads as later-reads
-use Rattle.planner.proofs.blocks.put_row.Reads as put-row-reads
-use Rattle.planner.proofs.search.begin.Reads as begin-reads
-use Rattle.planner.proofs.search.take.Reads as take-reads
 
 abbrev Inv-search : tie.InvT-search
 Inv-search arrivals deadlines operations rows count first ended from kept₀ kept = KeptIs (listOf arrivals deadlines operations) from first kept
@@ -28,43 +25,33 @@ Inv-loop arrivals deadlines operations rows₀ count₀ first₀ ended₀ rows c
 abbrev μ-loop : tie.MeasureT-loop
 μ-loop arrivals deadlines operations rows₀ count₀ first₀ ended₀ rows count first ended = length arrivals - first
 
--- src/blocks.rt:43:5
 loop-holds : tie.Need-loop-holds Inv-search μ-search Inv-loop μ-loop
 loop-holds c = let a = c .before .before .before .before .args in builds-from-nothing (a .arrivals .now) (a .deadlines .now) (a .operations .now) (c .before .before .before .before .pre .0) (a .rows .now) (c .before .before .before .before .pre .1)
 
--- src/blocks.rt:44:26
 mul-later : tie.Need-mul-later Inv-search μ-search Inv-loop μ-loop
 mul-later c = search needs
 
--- src/blocks.rt:44:26
 shared-slice-read-later : tie.Need-shared-slice-read-later Inv-search μ-search Inv-loop μ-loop
 shared-slice-read-later c = search needs
 
--- src/blocks.rt:44:13
 later-requires : tie.Need-later-requires Inv-search μ-search Inv-loop μ-loop
 later-requires c κs = search needs
 
--- src/blocks.rt:45:13
 begin-requires : tie.Need-begin-requires Inv-search μ-search Inv-loop μ-loop
 begin-requires c κs = search needs
 
--- src/blocks.rt:46:13
 search-holds : tie.Need-search-holds Inv-search μ-search Inv-loop μ-loop
 search-holds c = search needs
 
--- src/blocks.rt:47:17
 take-requires : tie.Need-take-requires Inv-search μ-search Inv-loop μ-loop
 take-requires c κs = search needs
 
--- src/blocks.rt:49:28
 enum-known-step : tie.Need-enum-known-step Inv-search μ-search Inv-loop μ-loop
 enum-known-step c = search needs
 
--- src/blocks.rt:50:28
 enum-known-step-2 : tie.Need-enum-known-step-2 Inv-search μ-search Inv-loop μ-loop
 enum-known-step-2 c = search needs
 
--- src/blocks.rt:46:13
 search-less : tie.Need-search-less Inv-search μ-search Inv-loop μ-loop
 search-less c =
     let l = c .before .before .before .before .before .before .before .before .before in
@@ -75,7 +62,6 @@ search-less c =
     let inv = c .before .before .before .before .search .inv in
     omega (arith, next, inv .kept-in .upto, inv .kept-in .stretch .on-list)
 
--- src/blocks.rt:46:13
 search-again : tie.Need-search-again Inv-search μ-search Inv-loop μ-loop
 search-again c =
     let l = c .before .before .before .before .before .before .before .before .before in
@@ -84,7 +70,6 @@ search-again c =
     let ℓ = listOf (a .arrivals .now) (a .deadlines .now) (a .operations .now) in
     step-goes ℓ (c .before .before .before .before .before .before .later .result) (l .loop .first) _ (c .before .before .before .take .result) (c .before .before .before .take .ensures) (c .before .step2 .given .0 .0) (c .before .step2 .given .1) .0
 
--- src/blocks.rt:57:9
 put-row-requires : tie.Need-put-row-requires Inv-search μ-search Inv-loop μ-loop
 put-row-requires c κs =
     let l = c .before .before .before .before .before .before .before .before .before .before in
@@ -98,11 +83,9 @@ put-row-requires c κs =
       omega (arith, end-is .on, end-is .stretch .on-list, s .pre .0 .few),
     )
 
--- src/blocks.rt:58:9
 add-count : tie.Need-add-count Inv-search μ-search Inv-loop μ-loop
 add-count c = search needs
 
--- src/blocks.rt:59:17
 add-first : tie.Need-add-first Inv-search μ-search Inv-loop μ-loop
 add-first c =
     let l = c .before .before .before .before .before .before .before .before .before .before .before .before .before in
@@ -113,7 +96,6 @@ add-first c =
     let end-is = step-ends ℓ (c .before .before .before .before .before .before .before .before .before .before .later .result) (l .loop .first) _ (c .before .before .before .before .before .before .before .take .result) (c .before .before .before .before .before .before .before .take .ensures) e (c .before .before .before .before .before .step .given .1) in
     omega (arith, end-is .on, end-is .stretch .on-list, s .pre .0 .few)
 
--- src/blocks.rt:43:5
 loop-less : tie.Need-loop-less Inv-search μ-search Inv-loop μ-loop
 loop-less c =
     let l = c .before .before .before .before .before .before .before .before .before .before .before .before .before in
@@ -124,7 +106,6 @@ loop-less c =
     let end-is = step-ends ℓ (c .before .before .before .before .before .before .before .before .before .before .later .result) (l .loop .first) _ (c .before .before .before .before .before .before .before .take .result) (c .before .before .before .before .before .before .before .take .ensures) e (c .before .before .before .before .before .step .given .1) in
     omega (arith, end-is .from, c .before .before .before .before .before .before .before .before .before .before .before .before .loop-test .taken)
 
--- src/blocks.rt:43:5
 loop-again : tie.Need-loop-again Inv-search μ-search Inv-loop μ-loop
 loop-again c =
     let l = c .before .before .before .before .before .before .before .before .before .before .before .before .before in
@@ -136,11 +117,9 @@ loop-again c =
     subst (Building ℓ (a .rows .now) (l .loop .count + 1) (e .last + 1) (e .time)) (sym (c .before .before .put-row .ensures))
     (builds-on (a .arrivals .now) (a .deadlines .now) (a .operations .now) (s .pre .0) (a .rows .now) (s .pre .1) (l .loop .count) (l .loop .first) (l .loop .ended) (c .before .before .before .before .before .before .before .before .before .before .later .result) (l .loop .rows) (l .loop .inv) e end-is (c .before .before .before .before .before .before .before .before .before .before .later .ensures) (c .before .before .before .before .before .before .before .before .before .before .before .before .loop-test .taken))
 
--- src/blocks.rt:35:1
 same-length : tie.Need-same-length Inv-search μ-search Inv-loop μ-loop
 same-length c = search needs
 
--- src/blocks.rt:35:1
 returns : tie.Need-returns Inv-search μ-search Inv-loop μ-loop
 returns c = let s = c .before .before .before .before .before .before in let a = s .args in builds-all (a .arrivals .now) (a .deadlines .now) (a .operations .now) (s .pre .0) (a .rows .now) (s .pre .1) _ _ _ _ (c .before .loop .inv) (c .loop-test .left)
 

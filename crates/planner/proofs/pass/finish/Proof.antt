@@ -1,49 +1,39 @@
+-- `planner::pass::finish` meets its contract: products of numbers below 2^16 and 2^32, and a sum that fits.
+-- Assumes nothing.
 use borrow.Author.Needs.{needs}
 use native.Mathlib.Omega.{arith}
 use native.Mathlib.Nat.{mul-le-mul}
 use Rattle.fraction.proofs.Product.{product-fits}
 use Rattle.planner.proofs.pass.finish.Statement.{statement}
 use Rattle.planner.proofs.pass.finish.Tie as tie
-use Rattle.planner.proofs.pass.finish.Reads as reads
-use Rattle.planner.proofs.pass.finish.Lts as lts
 
--- src/pass.rt:16:20
 cast-arrived : tie.Need-cast-arrived
 cast-arrived c = search needs
 
--- src/pass.rt:16:38
 cast-arrived-2 : tie.Need-cast-arrived-2
 cast-arrived-2 c = search needs
 
--- src/pass.rt:16:19
 mul-arrived : tie.Need-mul-arrived
 mul-arrived c = record { fits = product-fits 32 (search needs) (search needs) }
 
--- src/pass.rt:17:17
 cast-work : tie.Need-cast-work
 cast-work c = search needs
 
--- src/pass.rt:17:46
 cast-work-2 : tie.Need-cast-work-2
 cast-work-2 c = search needs
 
--- src/pass.rt:17:16
 mul-work : tie.Need-mul-work
 mul-work c = record { fits = product-fits 32 (search needs) (search needs) }
 
--- src/pass.rt:19:9
 add-result : tie.Need-add-result
 add-result c = let s = c .before .before .before .before .before in omega (arith, mul-le-mul (s .pre .0) (s .pre .1))
 
--- src/pass.rt:21:9
 add-result-2 : tie.Need-add-result-2
 add-result-2 c = let s = c .before .before .before .before .before in omega (arith, mul-le-mul {n₁ = s .args .roll .q} {m₁ = s .args .report .arrival} {n₂ = 65535} {m₂ = 4294967295} (s .pre .2) (omega arith), mul-le-mul (s .pre .0) (s .pre .1))
 
--- src/pass.rt:12:1
 returns : tie.Need-returns
 returns c = search needs
 
--- src/pass.rt:12:1
 returns-2 : tie.Need-returns-2
 returns-2 c = search needs
 

@@ -1,3 +1,6 @@
+-- `planner::pass::first_without` meets its contract. The invariant: done is Q times the finish of the report before at the fastest pace (Through.antt), it is
+-- small, and the pass holds at every report passed. The measure is what is left of the list.
+-- Assumes nothing.
 use borrow.Author.Needs.{needs}
 use Prim.Native.Nat.{ℕ, _+_, _*_, _≤_, _<_, _-_, max}
 use mathlib.Core.Path.{_≡_, _∙_, ap, subst}
@@ -10,11 +13,6 @@ use Rattle.critical.proofs.Room.{HoldsTo}
 use Rattle.planner.proofs.Through.{through, through-zero, through-step, stops-at, holds-on, passes, through-bound}
 use Rattle.planner.proofs.pass.first_without.Statement.{statement}
 use Rattle.planner.proofs.pass.first_without.Tie as tie
-use Rattle.planner.proofs.pass.first_without.Reads as reads
-use Rattle.planner.proofs.pass.first_without.Lts as lts
-use Rattle.planner.proofs.Report.new.Reads as new-reads
-use Rattle.planner.proofs.pass.due.Reads as due-reads
-use Rattle.planner.proofs.pass.finish.Reads as finish-reads
 
 abbrev Inv-loop : tie.InvT-loop
 Inv-loop arrivals deadlines operations roll i₀ done₀ i done =
@@ -26,41 +24,32 @@ Inv-loop arrivals deadlines operations roll i₀ done₀ i done =
 abbrev μ-loop : tie.MeasureT-loop
 μ-loop arrivals deadlines operations roll i₀ done₀ i done = length arrivals - i
 
--- src/pass.rt:40:5
 loop-holds : tie.Need-loop-holds Inv-loop μ-loop
 loop-holds c =
     let a = c .before .before .before .args in
     (search needs, through-zero (listOf (a .arrivals .now) (a .deadlines .now) (a .operations .now)) (a .roll .p) (a .roll .q), search needs, λ i h. absurd (not-suc-le-zero h))
 
--- src/pass.rt:41:34
 mul-new : tie.Need-mul-new Inv-loop μ-loop
 mul-new c = search needs
 
--- src/pass.rt:41:34
 shared-slice-read-new : tie.Need-shared-slice-read-new Inv-loop μ-loop
 shared-slice-read-new c = search needs
 
--- src/pass.rt:41:47
 mul-new-2 : tie.Need-mul-new-2 Inv-loop μ-loop
 mul-new-2 c = search needs
 
--- src/pass.rt:41:47
 shared-slice-read-new-2 : tie.Need-shared-slice-read-new-2 Inv-loop μ-loop
 shared-slice-read-new-2 c = search needs
 
--- src/pass.rt:41:61
 mul-new-3 : tie.Need-mul-new-3 Inv-loop μ-loop
 mul-new-3 c = search needs
 
--- src/pass.rt:41:61
 shared-slice-read-new-3 : tie.Need-shared-slice-read-new-3 Inv-loop μ-loop
 shared-slice-read-new-3 c = search needs
 
--- src/pass.rt:41:13
 new-requires : tie.Need-new-requires Inv-loop μ-loop
 new-requires c κs = search needs
 
--- src/pass.rt:42:9
 finish-requires : tie.Need-finish-requires Inv-loop μ-loop
 finish-requires c κs =
     let l = c .before .before .before .before .before in
@@ -72,11 +61,9 @@ finish-requires c κs =
     let i = l .loop .i in
     (omega (arith, ap (λ r. r .operations) (c .new .ensures), s .pre .0 .work i (search needs)), s .pre .1 .p-most, s .pre .1 .q-most, omega (arith, l .loop .inv .2, l .loop .inv .0, s .pre .0 .few))
 
--- src/pass.rt:43:12
 due-requires : tie.Need-due-requires Inv-loop μ-loop
 due-requires c κs = search needs
 
--- src/pass.rt:44:13
 returns : tie.Need-returns Inv-loop μ-loop
 returns c =
     let l = c .before .before .before .before .before .before .before .before in
@@ -95,15 +82,12 @@ returns c =
       passes = λ x. absurd (omega (arith, x));
     }
 
--- src/pass.rt:46:9
 add-i : tie.Need-add-i Inv-loop μ-loop
 add-i c = search needs
 
--- src/pass.rt:40:5
 loop-less : tie.Need-loop-less Inv-loop μ-loop
 loop-less c = search needs
 
--- src/pass.rt:40:5
 loop-again : tie.Need-loop-again Inv-loop μ-loop
 loop-again c =
     let l = c .before .before .before .before .before .before .before .before in
@@ -122,7 +106,6 @@ loop-again c =
       holds-on ℓ p q (s .pre .1 .p-some) (s .pre .1 .q-some) i (l .loop .inv .3) (omega (arith, e, d, c .if1 .left)),
     )
 
--- src/pass.rt:33:1
 returns-2 : tie.Need-returns-2 Inv-loop μ-loop
 returns-2 c =
     let l = c .before in

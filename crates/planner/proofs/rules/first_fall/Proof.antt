@@ -1,3 +1,5 @@
+-- `planner::rules::first_fall` meets its contract. The invariant: no number passed falls below the one before. The measure is what is left of the list.
+-- Assumes nothing.
 use borrow.Author.Needs.{needs}
 use native.Mathlib.Omega.{arith}
 use Rattle.planner.proofs.Laws.{no-fall-first, falls-at, no-fall-at}
@@ -7,8 +9,6 @@ use borrow.Author.Count.{below-more}
 use Rattle.planner.specs.Rules.{Falls}
 use Rattle.planner.proofs.rules.first_fall.Statement.{statement}
 use Rattle.planner.proofs.rules.first_fall.Tie as tie
-use Rattle.planner.proofs.rules.first_fall.Reads as reads
-use Rattle.planner.proofs.rules.first_fall.Lts as lts
 
 abbrev Inv-loop : tie.InvT-loop
 Inv-loop xs i₀ i = (1 ≤ i) × (i ≤ max 1 (length xs)) × ((k : ℕ) → k < i → Falls (λ j. getD xs j 0) k → ⊥)
@@ -16,47 +16,36 @@ Inv-loop xs i₀ i = (1 ≤ i) × (i ≤ max 1 (length xs)) × ((k : ℕ) → k 
 abbrev μ-loop : tie.MeasureT-loop
 μ-loop xs i₀ i = length xs - i
 
--- src/rules.rt:33:5
 loop-holds : tie.Need-loop-holds Inv-loop μ-loop
 loop-holds c = (search needs, search needs, no-fall-first _)
 
--- src/rules.rt:34:12
 mul-if1 : tie.Need-mul-if1 Inv-loop μ-loop
 mul-if1 c = search needs
 
--- src/rules.rt:34:12
 shared-slice-read-if1 : tie.Need-shared-slice-read-if1 Inv-loop μ-loop
 shared-slice-read-if1 c = search needs
 
--- src/rules.rt:34:23
 sub-if1 : tie.Need-sub-if1 Inv-loop μ-loop
 sub-if1 c = search needs
 
--- src/rules.rt:34:20
 mul-if1-2 : tie.Need-mul-if1-2 Inv-loop μ-loop
 mul-if1-2 c = search needs
 
--- src/rules.rt:34:20
 shared-slice-read-if1-2 : tie.Need-shared-slice-read-if1-2 Inv-loop μ-loop
 shared-slice-read-if1-2 c = search needs
 
--- src/rules.rt:35:13
 returns : tie.Need-returns Inv-loop μ-loop
 returns c = record { within = search needs; at-fault = λ _. falls-at _ _ (c .before .before .before .before .loop .inv .0) (c .if1 .taken); none-before = c .before .before .before .before .loop .inv .2 }
 
--- src/rules.rt:37:9
 add-i : tie.Need-add-i Inv-loop μ-loop
 add-i c = search needs
 
--- src/rules.rt:33:5
 loop-less : tie.Need-loop-less Inv-loop μ-loop
 loop-less c = search needs
 
--- src/rules.rt:33:5
 loop-again : tie.Need-loop-again Inv-loop μ-loop
 loop-again c = (search needs, search needs, below-more _ _ (c .before .before .before .before .loop .inv .2) (no-fall-at _ _ (c .before .before .before .before .loop .inv .0) (c .if1 .left)))
 
--- src/rules.rt:29:1
 returns-2 : tie.Need-returns-2 Inv-loop μ-loop
 returns-2 c = record { within = search needs; at-fault = λ h. absurd (omega arith); none-before = λ k h. c .before .loop .inv .2 k (omega (arith, c .loop-test .left)) }
 

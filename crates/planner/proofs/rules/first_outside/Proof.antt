@@ -1,3 +1,5 @@
+-- `planner::rules::first_outside` meets its contract. The invariant: no number passed is outside the range. The measure is what is left of the list.
+-- Assumes nothing.
 use borrow.Author.Needs.{needs}
 use mathlib.Core.Logic.{inl, inr}
 use native.Mathlib.Omega.{arith}
@@ -8,8 +10,6 @@ use borrow.Author.Count.{below-more}
 use Rattle.planner.specs.Rules.{Outside}
 use Rattle.planner.proofs.rules.first_outside.Statement.{statement}
 use Rattle.planner.proofs.rules.first_outside.Tie as tie
-use Rattle.planner.proofs.rules.first_outside.Reads as reads
-use Rattle.planner.proofs.rules.first_outside.Lts as lts
 
 abbrev Inv-loop : tie.InvT-loop
 Inv-loop xs least most i₀ i = (i ≤ length xs) × ((k : ℕ) → k < i → Outside least most (getD xs k 0) → ⊥)
@@ -17,39 +17,30 @@ Inv-loop xs least most i₀ i = (i ≤ length xs) × ((k : ℕ) → k < i → Ou
 abbrev μ-loop : tie.MeasureT-loop
 μ-loop xs least most i₀ i = length xs - i
 
--- src/rules.rt:15:5
 loop-holds : tie.Need-loop-holds Inv-loop μ-loop
 loop-holds c = search needs
 
--- src/rules.rt:16:17
 mul-x : tie.Need-mul-x Inv-loop μ-loop
 mul-x c = search needs
 
--- src/rules.rt:16:17
 shared-slice-read-x : tie.Need-shared-slice-read-x Inv-loop μ-loop
 shared-slice-read-x c = search needs
 
--- src/rules.rt:18:13
 returns : tie.Need-returns Inv-loop μ-loop
 returns c = record { within = search needs; at-fault = λ _. inl (c .if1 .taken); none-before = c .before .before .before .loop .inv .1 }
 
--- src/rules.rt:21:13
 returns-2 : tie.Need-returns-2 Inv-loop μ-loop
 returns-2 c = record { within = search needs; at-fault = λ _. inr (c .if2 .taken); none-before = c .before .before .before .before .loop .inv .1 }
 
--- src/rules.rt:23:9
 add-i : tie.Need-add-i Inv-loop μ-loop
 add-i c = search needs
 
--- src/rules.rt:15:5
 loop-less : tie.Need-loop-less Inv-loop μ-loop
 loop-less c = search needs
 
--- src/rules.rt:15:5
 loop-again : tie.Need-loop-again Inv-loop μ-loop
 loop-again c = (search needs, below-more _ _ (c .before .before .before .before .loop .inv .1) (inside _ _ _ (c .before .if1 .left) (c .if2 .left)))
 
--- src/rules.rt:11:1
 returns-3 : tie.Need-returns-3 Inv-loop μ-loop
 returns-3 c = record { within = search needs; at-fault = λ h. absurd (omega (arith, c .loop-test .left)); none-before = c .before .loop .inv .1 }
 

@@ -1,3 +1,5 @@
+-- `planner::search::judge` meets its contract: the three laws of one step (Searching.antt).
+-- Assumes nothing.
 use borrow.Author.Needs.{needs}
 use mathlib.Core.Path.{sym, refl, _∙_}
 use native.Mathlib.Omega.{arith}
@@ -6,24 +8,16 @@ use Rattle.planner.specs.Inside.{StepIs}
 use Rattle.planner.proofs.Searching.{ends-by-rise, ends-by-fall, goes-on-with}
 use Rattle.planner.proofs.search.judge.Statement.{statement}
 use Rattle.planner.proofs.search.judge.Tie as tie
-use Rattle.planner.proofs.search.judge.Reads as reads
-use Rattle.planner.proofs.search.judge.Lts as lts
-use Rattle.planner.proofs.search.below.Reads as below-reads
-use Rattle.planner.proofs.search.choose.Reads as choose-reads
 
--- src/search.rt:117:8
 below-requires : tie.Need-below-requires
 below-requires c κs = search needs
 
--- src/search.rt:121:19
 mul-t16 : tie.Need-mul-t16
 mul-t16 c = search needs
 
--- src/search.rt:121:19
 shared-slice-read-t18 : tie.Need-shared-slice-read-t18
 shared-slice-read-t18 c = search needs
 
--- src/search.rt:119:9
 returns : tie.Need-returns
 unfolding StepIs
 returns c =
@@ -34,23 +28,18 @@ returns c =
     let some = s .pre .0 .some (a .first) (omega (arith, wd .kept-in .stretch .from, wd .kept-in .stretch .on-list)) in
     ends-by-rise ℓ (a .from) (a .first) some (a .kept) (a .high) (a .low) wd (sym (c .before .before .below .ensures) ∙ c .before .if1 .taken)
 
--- src/search.rt:125:8
 below-requires-2 : tie.Need-below-requires-2
 below-requires-2 c κs = search needs
 
--- src/search.rt:129:28
 add-t21 : tie.Need-add-t21
 add-t21 c = search needs
 
--- src/search.rt:129:19
 mul-t22 : tie.Need-mul-t22
 mul-t22 c = search needs
 
--- src/search.rt:129:19
 shared-slice-read-t24 : tie.Need-shared-slice-read-t24
 shared-slice-read-t24 c = search needs
 
--- src/search.rt:127:9
 returns-2 : tie.Need-returns-2
 unfolding StepIs
 returns-2 c =
@@ -61,27 +50,21 @@ returns-2 c =
     let some = s .pre .0 .some (a .first) (omega (arith, wd .kept-in .stretch .from, wd .kept-in .stretch .on-list)) in
     ends-by-fall ℓ (a .from) (a .first) some (a .kept) (a .high) (a .low) wd (sym (c .before .before .below2 .ensures) ∙ c .before .if2 .taken)
 
--- src/search.rt:133:28
 below-requires-3 : tie.Need-below-requires-3
 below-requires-3 c κs = search needs
 
--- src/search.rt:133:9
 choose-requires : tie.Need-choose-requires
 choose-requires c κs = search needs
 
--- src/search.rt:134:27
 below-requires-4 : tie.Need-below-requires-4
 below-requires-4 c κs = search needs
 
--- src/search.rt:134:9
 choose-requires-2 : tie.Need-choose-requires-2
 choose-requires-2 c κs = search needs
 
--- src/search.rt:136:15
 add-t27 : tie.Need-add-t27
 add-t27 c = omega (arith, c .before .before .before .before .before .before .before .before .before .before .before .before .before .before .pre .1 .on, c .before .before .before .before .before .before .before .before .before .before .before .before .before .before .pre .1 .kept-in .stretch .on-list, c .before .before .before .before .before .before .before .before .before .before .before .before .before .before .pre .0 .few)
 
--- src/search.rt:110:1
 returns-3 : tie.Need-returns-3
 unfolding StepIs
 returns-3 c =

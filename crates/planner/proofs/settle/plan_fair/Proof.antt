@@ -1,18 +1,14 @@
+-- `planner::settle::plan_fair` meets its contract: rule 9, or the rows.
+-- Assumes nothing.
 use borrow.Author.Needs.{needs}
 use Rattle.critical.specs.Reports.{listOf}
 use Rattle.planner.proofs.Outcomes.{refuses-nine, plans-all}
 use Rattle.planner.proofs.settle.plan_fair.Statement.{statement}
 use Rattle.planner.proofs.settle.plan_fair.Tie as tie
-use Rattle.planner.proofs.settle.plan_fair.Reads as reads
-use Rattle.planner.proofs.settle.plan_fair.Lts as lts
-use Rattle.planner.proofs.blocks.blocks.Reads as blocks-reads
-use Rattle.planner.proofs.pass.first_without.Reads as first-without-reads
 
--- src/settle.rt:23:9
 first-without-requires : tie.Need-first-without-requires
 first-without-requires c κs = search needs
 
--- src/settle.rt:25:9
 returns : tie.Need-returns
 returns c =
     let s = c .before .before .before .before .before .before in
@@ -20,15 +16,12 @@ returns c =
     let ℓ = listOf (a .arrivals .now) (a .deadlines .now) (a .operations .now) in
     refuses-nine ℓ (a .roll .p) (a .roll .q) (s .pre .1 .1) (a .rows .now) (c .before .first-without .result) (c .before .first-without .ensures) (c .if1 .taken)
 
--- src/settle.rt:27:9
 blocks-requires : tie.Need-blocks-requires
 blocks-requires c κs = search needs
 
--- src/settle.rt:17:1
 same-length : tie.Need-same-length
 same-length c = search needs
 
--- src/settle.rt:17:1
 returns-2 : tie.Need-returns-2
 returns-2 c =
     let s = c .before .before .before .before .before .before .before .before .before .before in

@@ -1,3 +1,5 @@
+-- `planner::settle::settle_readings` meets its contract: the fronts of the scratch arrays are the offsets.
+-- Assumes nothing.
 use borrow.Author.Needs.{needs}
 use mathlib.Core.Path.{refl}
 use lib.ListN.{length}
@@ -6,32 +8,22 @@ use Rattle.planner.specs.Offsets.{offset}
 use Rattle.planner.proofs.Outcomes.{front, front-long, sized-offsets, outcome-offsets}
 use Rattle.planner.proofs.settle.settle_readings.Statement.{statement}
 use Rattle.planner.proofs.settle.settle_readings.Tie as tie
-use Rattle.planner.proofs.settle.settle_readings.Reads as reads
-use Rattle.planner.proofs.settle.settle_readings.Lts as lts
-use Rattle.planner.proofs.rules.offsets.Reads as offsets-reads
-use Rattle.planner.proofs.settle.settle.Reads as settle-reads
 
--- src/settle.rt:68:41
 slice-aggregate-offsets : tie.Need-slice-aggregate-offsets
 slice-aggregate-offsets c = search needs
 
--- src/settle.rt:68:5
 offsets-requires : tie.Need-offsets-requires
 offsets-requires c κs = search needs
 
--- src/settle.rt:69:42
 slice-aggregate-offsets-2 : tie.Need-slice-aggregate-offsets-2
 slice-aggregate-offsets-2 c = search needs
 
--- src/settle.rt:69:5
 offsets-requires-2 : tie.Need-offsets-requires-2
 offsets-requires-2 c κs = search needs
 
--- src/settle.rt:70:12
 array-share-prefix-from : tie.Need-array-share-prefix-from
 array-share-prefix-from c = search needs
 
--- src/settle.rt:70:12
 slice-aggregate-settle : tie.Need-slice-aggregate-settle
 slice-aggregate-settle c =
     let s = c .before .before .before .before .before .before .before .before .before .before .before in
@@ -39,11 +31,9 @@ slice-aggregate-settle c =
     let g = offset (a .roll .reference) in
     front-long g (a .arrivals .now) (c .before .before .before .before .before .offsets .last .1 .1 .0) (length (a .arrivals .now)) refl (c .before .before .before .before .before .offsets .ensures)
 
--- src/settle.rt:70:24
 array-share-prefix-due : tie.Need-array-share-prefix-due
 array-share-prefix-due c = search needs
 
--- src/settle.rt:70:24
 slice-aggregate-settle-2 : tie.Need-slice-aggregate-settle-2
 slice-aggregate-settle-2 c =
     let s = c .before .before .before .before .before .before .before .before .before .before .before .before in
@@ -51,7 +41,6 @@ slice-aggregate-settle-2 c =
     let g = offset (a .roll .reference) in
     front-long g (a .deadlines .now) (c .before .before .before .offsets2 .last .1 .1 .0) (length (a .arrivals .now)) (s .pre .0 .deadlines-long) (c .before .before .before .offsets2 .ensures)
 
--- src/settle.rt:70:5
 settle-requires : tie.Need-settle-requires
 settle-requires c κs =
     let s = c .before .before .before .before .before .before .before .before .before .before .before .before .before in
@@ -59,11 +48,9 @@ settle-requires c κs =
     let g = offset (a .roll .reference) in
     (sized-offsets g (a .arrivals .now) (a .deadlines .now) (a .operations .now) _ _ (a .rows .now) (front g (a .arrivals .now) (c .before .before .before .before .before .before .before .offsets .last .1 .1 .0) (length (a .arrivals .now)) refl (c .before .before .before .before .before .before .before .offsets .ensures)) (front g (a .deadlines .now) (c .before .before .before .before .offsets2 .last .1 .1 .0) (length (a .arrivals .now)) (s .pre .0 .deadlines-long) (c .before .before .before .before .offsets2 .ensures)) (s .pre .0), s .pre .1)
 
--- src/settle.rt:59:1
 same-length : tie.Need-same-length
 same-length c = search needs
 
--- src/settle.rt:59:1
 returns : tie.Need-returns
 returns c =
     let s = c .before .before .before .before .before .before .before .before .before .before .before .before .before .before .before .before in
