@@ -14,7 +14,8 @@ impl Pace {
     pub fn below(self, other: Pace) -> bool
         ensures { λ r. ⌜ r ≡ ltb (self .ticks * other .operations) (other .ticks * self .operations) ⌝ }
     {
-        (self.ticks as u64) * (other.operations as u64)
-            < (other.ticks as u64) * (self.operations as u64)
+        let mine = (self.ticks as u64) * (other.operations as u64);
+        let theirs = (other.ticks as u64) * (self.operations as u64);
+        mine < theirs
     }
 }

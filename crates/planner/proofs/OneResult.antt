@@ -33,7 +33,7 @@ one-refusal (r ∷ rs) s k p k′ p′ (inr a) (inl b) = absurd (a .0 p′ (b .1
 one-refusal (r ∷ rs) s k p k′ p′ (inr a) (inr b) = one-refusal rs (s .1) k p k′ p′ (a .1) (b .1)
 
 -- what is accepted is not refused
-not-refused : (rs : List Rule) → Accepted rs → (k p : ℕ) → Refused rs k p → ⊥
+pub not-refused : (rs : List Rule) → Accepted rs → (k p : ℕ) → Refused rs k p → ⊥
 unfolding Refused Accepted
 not-refused [] a k p b = b
 not-refused (r ∷ rs) a k p (inl b) = a .0 p (b .1)

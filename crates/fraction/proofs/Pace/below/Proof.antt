@@ -5,26 +5,26 @@ use Rattle.fraction.proofs.Product.{product-fits}
 use Rattle.fraction.proofs.Pace.below.Statement.{statement}
 use Rattle.fraction.proofs.Pace.below.Tie as tie
 
-cast-result : tie.Need-cast-result
-cast-result c = search needs
+cast-mine : tie.Need-cast-mine
+cast-mine c = search needs
 
-cast-result-2 : tie.Need-cast-result-2
-cast-result-2 c = search needs
+cast-mine-2 : tie.Need-cast-mine-2
+cast-mine-2 c = search needs
 
-mul-result : tie.Need-mul-result
-mul-result c = record { fits = product-fits 32 (search needs) (search needs) }
+mul-mine : tie.Need-mul-mine
+mul-mine c = record { fits = product-fits 32 (search needs) (search needs) }
 
-cast-result-3 : tie.Need-cast-result-3
-cast-result-3 c = search needs
+cast-theirs : tie.Need-cast-theirs
+cast-theirs c = search needs
 
-cast-result-4 : tie.Need-cast-result-4
-cast-result-4 c = search needs
+cast-theirs-2 : tie.Need-cast-theirs-2
+cast-theirs-2 c = search needs
 
-mul-result-2 : tie.Need-mul-result-2
-mul-result-2 c = record { fits = product-fits 32 (search needs) (search needs) }
+mul-theirs : tie.Need-mul-theirs
+mul-theirs c = record { fits = product-fits 32 (search needs) (search needs) }
 
 returns : tie.Need-returns
 returns c = search needs
 
 pub below-spec : {M : Type 1} → statement M
-below-spec = tie.close (tie.spec cast-result cast-result-2 mul-result cast-result-3 cast-result-4 mul-result-2 returns)
+below-spec = tie.close (tie.spec cast-mine cast-mine-2 mul-mine cast-theirs cast-theirs-2 mul-theirs returns)

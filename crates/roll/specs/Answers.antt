@@ -1,0 +1,52 @@
+-- What the reader and the planner of a roll give back.
+-- Assumes nothing.
+use Prim.Native.Nat.{ℕ}
+use mathlib.Core.Path.{_≡_}
+use mathlib.Core.List.{List, []}
+use Rattle.planner.specs.Rules.{Refused, Accepted}
+use Rattle.planner.specs.Outcome.{numberOf, placeOf, blocksOf}
+use Rattle.roll.specs.Format.{referenceOf, countOf, pOf, qOf, fileRules, recordsOf}
+use Rattle.roll.specs.declared.Fault.{Fault}
+use Rattle.roll.specs.declared.Fault.the-variants.{Short, BadMark, BadBack, TooFar}
+use Rattle.roll.specs.declared.Trailer.{Trailer}
+use Rattle.roll.specs.declared.Found.{Found}
+use Rattle.roll.specs.declared.Found.the-variants.{Is, Not}
+use Rattle.roll.specs.declared.RollAnswer.{RollAnswer}
+use Rattle.roll.specs.declared.RollAnswer.the-variants.{File, List as Listed}
+
+-- 01's number of each fault of a file.
+abbrev pub faultNumber : Fault → ℕ
+faultNumber Short = 10
+faultNumber BadMark = 11
+faultNumber BadBack = 12
+faultNumber TooFar = 13
+
+-- A trailer's numbers are those of the roll.
+pub record TrailerIs (s : List ℕ) (t : Trailer) : Type 0 where
+  pub reference-is : t .reference ≡ referenceOf s
+  pub count-is : t .count ≡ countOf s
+  pub p-is : t .p ≡ pOf s
+  pub q-is : t .q ≡ qOf s
+
+-- The trailer is found where no file rule is given; else the fault is that of the first that is.
+unfoldable pub FoundIs : List ℕ → Found → Type 0
+FoundIs s (Is t) = Accepted (fileRules s) × TrailerIs s t
+FoundIs s (Not f) = Refused (fileRules s) (faultNumber f) 0
+
+-- The part with the records; empty on a refusal.
+pub record PartIs (s part : List ℕ) : Type 0 where
+  pub accepted : Accepted (fileRules s) → part ≡ recordsOf s
+  pub refused : (number place : ℕ) → Refused (fileRules s) number place → part ≡ []
+
+-- 01's number, place and block count of each answer.
+abbrev pub rollNumber : RollAnswer → ℕ
+rollNumber (File f) = faultNumber f
+rollNumber (Listed a) = numberOf a
+
+abbrev pub rollPlace : RollAnswer → ℕ
+rollPlace (File f) = 0
+rollPlace (Listed a) = placeOf a
+
+abbrev pub rollBlocks : RollAnswer → ℕ
+rollBlocks (File f) = 0
+rollBlocks (Listed a) = blocksOf a

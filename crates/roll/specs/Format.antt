@@ -1,0 +1,82 @@
+-- The roll (01, "The roll"): records of 12 bytes, then a trailer of 16 that points back. A free preface stands before the records and is never looked at.
+-- A roll is a list of bytes s; its trailer is read from the end.
+-- Assumes nothing.
+use Prim.Native.Nat.{ℕ, zero, suc, _+_, _*_, _-_, _<_}
+use mathlib.Core.Path.{_≡_}
+use mathlib.Core.List.{List, [], _∷_, _++_}
+use mathlib.Core.Logic.{_⊎_}
+use lib.ListN.{length, getD, take, drop}
+use Rattle.planner.specs.Offsets.{Input, reportsOf, fastestOf}
+use Rattle.planner.specs.Rules.{Rule, Whole, Refused, Accepted, wholeRules, reportRules}
+use Rattle.planner.specs.Outcome.{Outcome}
+
+-- All numbers are little-endian: two bytes, and four.
+abbrev pub u16At : List ℕ → ℕ → ℕ
+u16At s at = getD s at 0 + 256 * getD s (at + 1) 0
+
+abbrev pub u32At : List ℕ → ℕ → ℕ
+u32At s at = u16At s at + 65536 * u16At s (at + 2)
+
+-- The last 16 bytes: back distance (4), reference (4), record count (2), P (2), Q (2), mark (2).
+abbrev pub backOf : List ℕ → ℕ
+backOf s = u32At s (length s - 16)
+
+abbrev pub referenceOf : List ℕ → ℕ
+referenceOf s = u32At s (length s - 12)
+
+abbrev pub countOf : List ℕ → ℕ
+countOf s = u16At s (length s - 8)
+
+abbrev pub pOf : List ℕ → ℕ
+pOf s = u16At s (length s - 6)
+
+abbrev pub qOf : List ℕ → ℕ
+qOf s = u16At s (length s - 4)
+
+-- The mark is the two bytes 41 51 in hexadecimal.
+pub record Marked (s : List ℕ) : Type 0 where
+  pub a : getD s (length s - 2) 0 ≡ 0x41
+  pub q : getD s (length s - 1) 0 ≡ 0x51
+
+abbrev rule : ℕ → Type 0 → Rule
+rule number given = record { number = number; given = Whole given }
+
+-- The file rules: 10, shorter than 16 bytes; 11, mark wrong; 12, back distance is not 16 + 12 times the count; 13, back distance exceeds the roll's length.
+abbrev pub fileRules : List ℕ → List Rule
+fileRules s =
+    rule 10 (length s < 16)
+    ∷ rule 11 (Marked s → ⊥)
+    ∷ rule 12 (backOf s ≡ 16 + 12 * countOf s → ⊥)
+    ∷ rule 13 (length s < backOf s)
+    ∷ []
+
+-- The part of the bytes that holds the records: from the back distance before the end up to the trailer.
+abbrev pub recordsOf : List ℕ → List ℕ
+recordsOf s = take (12 * countOf s) (drop (length s - backOf s) s)
+
+-- The first n numbers that a function gives.
+unfoldable pub listed : ℕ → (ℕ → ℕ) → List ℕ
+listed zero f = []
+listed (suc n) f = listed n f ++ (f n ∷ [])
+
+-- One number of each record: at 0 the arrival reading, at 4 the deadline reading, at 8 the operations.
+abbrev pub columnOf : List ℕ → ℕ → List ℕ
+columnOf s at = listed (countOf s) (λ i. u32At (recordsOf s) (12 * i + at))
+
+-- What the planner is handed: the list in the roll, and a row buffer.
+abbrev pub inputOf : List ℕ → List ℕ → Input
+inputOf s buffer = record {
+  arrivals = columnOf s 0;
+  deadlines = columnOf s 4;
+  operations = columnOf s 8;
+  reference = referenceOf s;
+  P = pOf s;
+  Q = qOf s;
+  buffer = buffer;
+}
+
+-- The outcome of a roll, by all the rules, file rules first.
+abbrev pub RollOutcome : List ℕ → List ℕ → ℕ → ℕ → ℕ → List ℕ → Type 0
+RollOutcome s buffer number place blocks after =
+    let x = inputOf s buffer in
+    Outcome (fileRules s ++ (wholeRules x ++ reportRules (reportsOf x) (fastestOf x))) (reportsOf x) (fastestOf x) buffer number place blocks after

@@ -1,0 +1,106 @@
+// The roll: its reader, and planning straight from a roll. The format is specs/Format.antt, what
+// comes back specs/Answers.antt.
+use planner::Answer;
+
+mod bytes;
+
+ghost use mathlib.Core.Path.{_≡_};
+ghost use mathlib.Core.Bool.{true, false};
+ghost use Prim.Native.Nat.{_≤_};
+ghost use lib.ListN.{length};
+ghost use Rattle.roll.specs.Format.{Marked};
+ghost use Rattle.roll.specs.Answers.{FoundIs, PartIs};
+
+// What is wrong with a roll as a file. specs/Answers.antt gives 01's number for each case.
+pub enum Fault {
+    Short,
+    BadMark,
+    BadBack,
+    TooFar,
+}
+
+// The trailer's numbers.
+pub struct Trailer {
+    pub reference: u32,
+    pub count: u32,
+    pub p: u32,
+    pub q: u32,
+}
+
+impl Trailer {
+    // The mark at the roll's end.
+    pub const MARK: [u8; 2] = *b"AQ";
+    // The trailer's bytes, and a record's.
+    pub const BYTES: usize = 16;
+
+    pub const RECORD: usize = 12;
+}
+
+// The trailer, or what is wrong with it.
+pub enum Found {
+    Is(Trailer),
+    Not(Fault),
+}
+
+// The answer for a roll: a fault of the file, or the planner's answer for the list in it.
+pub enum RollAnswer {
+    File(Fault),
+    List(Answer),
+}
+
+// Whether the mark at the roll's end is wrong.
+fn unmarked(roll: &[u8]) -> bool
+    requires { ⌜ 16 ≤ length (now roll) ⌝ }
+    ensures yes { λ r. ⌜ (r ≡ true → Marked (now (roll .entry)) → ⊥) ⌝ }
+    ensures no { λ r. ⌜ (r ≡ false → Marked (now (roll .entry))) ⌝ }
+{
+    let mark = Trailer::MARK;
+    let n = roll.len();
+    if roll[n - 2] != mark[0] {
+        return true;
+    }
+    roll[n - 1] != mark[1]
+}
+
+// Reads the trailer: file rules 10 to 13, in their order.
+pub fn read_trailer(roll: &[u8]) -> Found
+    ensures { λ r. ⌜ FoundIs (now (roll .entry)) r ⌝ }
+{
+    let n = roll.len();
+    if n < Trailer::BYTES {
+        return Found::Not(Fault::Short);
+    }
+    if unmarked(roll) {
+        return Found::Not(Fault::BadMark);
+    }
+    let back = bytes::u32_at(roll, n - 16);
+    let count = bytes::u16_at(roll, n - 8);
+    if back != 16 + 12 * count {
+        return Found::Not(Fault::BadBack);
+    }
+    if n < back as usize {
+        return Found::Not(Fault::TooFar);
+    }
+    Found::Is(Trailer {
+        reference: bytes::u32_at(roll, n - 12),
+        count,
+        p: bytes::u16_at(roll, n - 6),
+        q: bytes::u16_at(roll, n - 4),
+    })
+}
+
+// The part of the caller's bytes that holds the records, no copy; empty where the trailer is refused.
+pub fn records(roll: &[u8]) -> &[u8]
+    ensures { λ r. ⌜ PartIs (now (roll .entry)) (now r) ⌝ }
+{
+    let found = read_trailer(roll);
+    let Found::Is(t) = found else {
+        return &roll[0..0];
+    };
+    let n = roll.len();
+    let count = t.count as usize;
+    let back = 16 + 12 * count;
+    let from = n - back;
+    let to = n - 16;
+    &roll[from..to]
+}
