@@ -14,7 +14,9 @@ use Rattle.roll.specs.Format.{Marked, backOf, countOf, fileRules}
 use Rattle.roll.specs.Answers.{PartIs, FoundIs, TrailerIs, faultNumber}
 use Rattle.roll.specs.declared.Fault.{Fault}
 use Rattle.roll.specs.declared.Trailer.{Trailer}
+use denote.Enum.Declared.{tagOf}
 use Rattle.roll.specs.declared.Found.{Found}
+use Rattle.roll.proofs.Found.{the-type}
 use Rattle.roll.specs.declared.Found.the-variants.{Is, Not}
 
 module _ (s : List ℕ) where
@@ -64,8 +66,10 @@ file-is s a = record {
 pub cut-part : (s : List ℕ) (c : ℕ) → Accepted (fileRules s) → c ≡ countOf s → PartIs s (take (length s - 16 - (length s - (16 + 12 * c))) (drop (length s - (16 + 12 * c)) s))
 cut-part s c a e =
     let f : FileIs s = file-is s a in
+    let m : length s - 16 - (length s - (16 + 12 * c)) ≡ 12 * countOf s = omega (arith, f .back-is, f .back-in, e) in
+    let n : length s - (16 + 12 * c) ≡ length s - backOf s = omega (arith, f .back-is, e) in
     record {
-      accepted = λ _. ap₂ (λ (m n : ℕ). take m (drop n s)) (omega (arith, f .back-is, f .back-in, e)) (omega (arith, f .back-is, e));
+      accepted = λ _. ap₂ (λ (m n : ℕ). take m (drop n s)) m n;
       refused = λ k p r. absurd (not-refused (fileRules s) a k p r);
     }
 
@@ -73,12 +77,17 @@ cut-part s c a e =
 pub no-part : (s : List ℕ) (k p : ℕ) → Refused (fileRules s) k p → PartIs s []
 no-part s k p r = record { accepted = λ a. absurd (not-refused (fileRules s) a k p r); refused = λ _ _ _. refl }
 
--- a trailer that is found, or not
-module _ (s : List ℕ) (r : Found) (is : FoundIs s r) where
-  pub found-is : (t : Trailer) → r ≡ Is t → Accepted (fileRules s) × TrailerIs s t
-  unfolding FoundIs
-  found-is t e = subst (FoundIs s) e is
+-- a trailer that is found
+pub found-is : (s : List ℕ) (r : Found) → FoundIs s r → (t : Trailer) → r ≡ Is t → Accepted (fileRules s) × TrailerIs s t
+unfolding FoundIs
+found-is s r is t e = subst (FoundIs s) e is
 
-  pub found-not : (f : Fault) → r ≡ Not f → Refused (fileRules s) (faultNumber f) 0
-  unfolding FoundIs
-  found-not f e = subst (FoundIs s) e is
+-- then its records are inside the roll
+pub fits-part : (s : List ℕ) (t : Trailer) → Accepted (fileRules s) × TrailerIs s t → 16 + 12 * (t .count) ≤ length s
+fits-part s t g = let f : FileIs s = file-is s (g .0) in omega (arith, f .back-is, f .back-in, g .1 .count-is)
+
+-- a trailer that is not, told by the tag that a match looks at
+pub not-part : (s : List ℕ) (r : Found) → FoundIs s r → tagOf the-type r ≡ 1 → PartIs s []
+unfolding FoundIs
+not-part s (Is t) is e = absurd (omega (arith, e))
+not-part s (Not f) is e = no-part s (faultNumber f) 0 is

@@ -1,0 +1,21 @@
+-- The first numbers that a function gives, at the front of a buffer.
+-- Assumes nothing.
+use Prim.Native.Nat.{ℕ, suc, _+_, _≤_, _<_}
+use mathlib.Core.Path.{_≡_, refl, subst}
+use mathlib.Core.List.{List, [], _∷_, _++_}
+use native.Mathlib.Omega.{arith}
+use native.Mathlib.Numerals.{add-one}
+use lib.ListN.{length, take, set}
+use lib.Seq.{take-suc-set}
+use Rattle.roll.specs.Format.{listed}
+
+pub listed-none : (f : ℕ → ℕ) (to : List ℕ) → take 0 to ≡ listed 0 f
+unfolding listed
+listed-none f to = refl
+
+pub listed-more : (f : ℕ → ℕ) (to : List ℕ) (i v : ℕ) → i < length to → v ≡ f i → take i to ≡ listed i f → take (i + 1) (set to i v) ≡ listed (i + 1) f
+unfolding listed
+listed-more f to i v k e p = rw (add-one i, take-suc-set to i v k, p, e) refl
+
+pub listed-done : (f : ℕ → ℕ) (to : List ℕ) (i n : ℕ) → i ≤ n → n ≤ i → take i to ≡ listed i f → take n to ≡ listed n f
+listed-done f to i n a b p = let e : i ≡ n = omega arith in subst (λ (k : ℕ). take k to ≡ listed k f) e p
