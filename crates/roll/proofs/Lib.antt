@@ -1,2 +1,3 @@
 pub mod FileRules
 pub mod Columns
+pub mod Rolls

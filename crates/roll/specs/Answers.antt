@@ -50,3 +50,8 @@ rollPlace (Listed a) = placeOf a
 abbrev pub rollBlocks : RollAnswer → ℕ
 rollBlocks (File f) = 0
 rollBlocks (Listed a) = blocksOf a
+
+-- The refusal of a trailer, handed up.
+unfoldable pub HandedUp : Found → RollAnswer → Type 0
+HandedUp (Is t) r = Unit {0}
+HandedUp (Not f) r = r ≡ File f

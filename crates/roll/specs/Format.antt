@@ -59,21 +59,25 @@ unfoldable pub listed : ℕ → (ℕ → ℕ) → List ℕ
 listed zero f = []
 listed (suc n) f = listed n f ++ (f n ∷ [])
 
--- One number of each record: at 0 the arrival reading, at 4 the deadline reading, at 8 the operations.
-abbrev pub columnOf : List ℕ → ℕ → List ℕ
-columnOf s at = listed (countOf s) (λ i. u32At (recordsOf s) (12 * i + at))
+-- One number of each record of a part: at 0 the arrival reading, at 4 the deadline reading, at 8 the operations.
+abbrev pub columnIn : List ℕ → ℕ → ℕ → List ℕ
+columnIn part count at = listed count (λ i. u32At part (12 * i + at))
 
--- What the planner is handed: the list in the roll, and a row buffer.
-abbrev pub inputOf : List ℕ → List ℕ → Input
-inputOf s buffer = record {
-  arrivals = columnOf s 0;
-  deadlines = columnOf s 4;
-  operations = columnOf s 8;
-  reference = referenceOf s;
-  P = pOf s;
-  Q = qOf s;
+-- What the planner is handed: the records of a part, a trailer's reference, P and Q, and a row buffer.
+abbrev pub inputIn : List ℕ → ℕ → ℕ → ℕ → ℕ → List ℕ → Input
+inputIn part count reference p q buffer = record {
+  arrivals = columnIn part count 0;
+  deadlines = columnIn part count 4;
+  operations = columnIn part count 8;
+  reference = reference;
+  P = p;
+  Q = q;
   buffer = buffer;
 }
+
+-- The list in a roll.
+abbrev pub inputOf : List ℕ → List ℕ → Input
+inputOf s buffer = inputIn (recordsOf s) (countOf s) (referenceOf s) (pOf s) (qOf s) buffer
 
 -- The outcome of a roll, by all the rules, file rules first.
 abbrev pub RollOutcome : List ℕ → List ℕ → ℕ → ℕ → ℕ → List ℕ → Type 0

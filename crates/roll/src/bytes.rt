@@ -2,7 +2,7 @@
 ghost use mathlib.Core.Path.{_≡_};
 ghost use Prim.Native.Nat.{_+_, _*_, _≤_, _<_};
 ghost use lib.ListN.{length, take};
-ghost use Rattle.roll.specs.Format.{listed, u16At, u32At};
+ghost use Rattle.roll.specs.Format.{columnIn, u16At, u32At};
 
 fn wide(b: u8) -> u32
     ensures { λ r. ⌜ (r ≡ b) × (r < 256) ⌝ }
@@ -29,7 +29,7 @@ pub fn u32_at(s: &[u8], at: usize) -> u32
 // One number of each of the first count records, at a place of the record, at the front of out.
 pub fn column(part: &[u8], count: usize, at: usize, out: &mut [u32])
     requires { ⌜ (12 * count ≤ length (now part)) × (count ≤ length (now out)) × (at ≤ 8) ⌝ }
-    ensures { λ r. ⌜ take count (now (out .exit)) ≡ listed count (λ i. u32At (now (part .entry)) (12 * i + at)) ⌝ }
+    ensures { λ r. ⌜ take count (now (out .exit)) ≡ columnIn (now (part .entry)) count at ⌝ }
 {
     let mut i = 0;
     while i < count {

@@ -1,15 +1,18 @@
 // The roll: its reader, and planning straight from a roll. The format is specs/Format.antt, what
 // comes back specs/Answers.antt.
 use planner::Answer;
+use planner::Roll;
+use planner::plan;
 
 mod bytes;
 
 ghost use mathlib.Core.Path.{_≡_};
 ghost use mathlib.Core.Bool.{true, false};
-ghost use Prim.Native.Nat.{_≤_};
+ghost use Prim.Native.Nat.{_*_, _≤_};
 ghost use lib.ListN.{length};
-ghost use Rattle.roll.specs.Format.{Marked};
-ghost use Rattle.roll.specs.Answers.{FoundIs, PartIs};
+ghost use Rattle.planner.specs.Outcome.{PlanOutcome, numberOf, placeOf, blocksOf};
+ghost use Rattle.roll.specs.Format.{Marked, inputIn, RollOutcome};
+ghost use Rattle.roll.specs.Answers.{FoundIs, HandedUp, PartIs, rollNumber, rollPlace, rollBlocks};
 
 // What is wrong with a roll as a file. specs/Answers.antt gives 01's number for each case.
 pub enum Fault {
@@ -103,4 +106,54 @@ pub fn records(roll: &[u8]) -> &[u8]
     let from = n - back;
     let to = n - 16;
     &roll[from..to]
+}
+
+// Plans the first count records of a part.
+fn plan_records(part: &[u8], count: usize, roll: Roll, rows: &mut [u32]) -> Answer
+    requires { ⌜ (12 * count ≤ length (now part)) × (count ≤ 1024) ⌝ }
+    ensures { λ r. ⌜ PlanOutcome (inputIn (now (part .entry)) count (roll .reference) (roll .p) (roll .q) (now (rows .entry))) (numberOf r) (placeOf r) (blocksOf r) (now (rows .exit)) ⌝ }
+{
+    let mut arrivals = [0u32; Roll::REPORTS];
+    let mut deadlines = [0u32; Roll::REPORTS];
+    let mut operations = [0u32; Roll::REPORTS];
+    bytes::column(part, count, 0, &mut arrivals);
+    bytes::column(part, count, 4, &mut deadlines);
+    bytes::column(part, count, 8, &mut operations);
+    plan(
+        &arrivals[..count],
+        &deadlines[..count],
+        &operations[..count],
+        roll.reference,
+        roll.p,
+        roll.q,
+        rows,
+    )
+}
+
+// The refusal of a trailer that is not found.
+fn handed_up(found: Found) -> RollAnswer
+    ensures { λ r. ⌜ HandedUp found r ⌝ }
+{
+    match found {
+        Found::Is(_) => RollAnswer::List(Answer::Planned(0)),
+        Found::Not(fault) => RollAnswer::File(fault),
+    }
+}
+
+// Plans the list in a roll, by all the rules, file rules first. What comes back, and what the row
+// buffer then holds, is RollOutcome, for every input.
+pub fn plan_roll(roll: &[u8], rows: &mut [u32]) -> RollAnswer
+    ensures { λ r. ⌜ RollOutcome (now (roll .entry)) (now (rows .entry)) (rollNumber r) (rollPlace r) (rollBlocks r) (now (rows .exit)) ⌝ }
+{
+    let found = read_trailer(roll);
+    let Found::Is(t) = found else {
+        return handed_up(found);
+    };
+    let count = t.count as usize;
+    if Roll::REPORTS < count {
+        return RollAnswer::List(Answer::TooMany);
+    }
+    let part = records(roll);
+    let answer = plan_records(part, count, Roll::new(t.reference, t.p, t.q), rows);
+    RollAnswer::List(answer)
 }
