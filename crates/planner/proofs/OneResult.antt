@@ -20,11 +20,11 @@ use Rattle.planner.proofs.Outcomes.{within-range}
 
 -- ---- one refusal
 -- each rule of a list is given with one place only
-Single : List Rule → Type 0
+unfoldable pub Single : List Rule → Type 0
 Single [] = Unit {0}
 Single (r ∷ rs) = ((p q : ℕ) → r .given p → r .given q → p ≡ q) × Single rs
 
-one-refusal : (rs : List Rule) → Single rs → (k p k′ p′ : ℕ) → Refused rs k p → Refused rs k′ p′ → (k ≡ k′) × (p ≡ p′)
+pub one-refusal : (rs : List Rule) → Single rs → (k p k′ p′ : ℕ) → Refused rs k p → Refused rs k′ p′ → (k ≡ k′) × (p ≡ p′)
 unfolding Refused Single
 one-refusal [] s k p k′ p′ a b = absurd a
 one-refusal (r ∷ rs) s k p k′ p′ (inl a) (inl b) = (a .0 ∙ sym (b .0), s .0 p p′ (a .1) (b .1))
@@ -39,14 +39,14 @@ not-refused [] a k p b = b
 not-refused (r ∷ rs) a k p (inl b) = a .0 p (b .1)
 not-refused (r ∷ rs) a k p (inr b) = not-refused rs (a .1) k p (b .1)
 
-one-whole : (P : Type 0) (p q : ℕ) → Whole P p → Whole P q → p ≡ q
+pub one-whole : (P : Type 0) (p q : ℕ) → Whole P p → Whole P q → p ≡ q
 one-whole P p q a b = a .1 ∙ sym (b .1)
 
 one-least : (n : ℕ) (F : ℕ → Type 0) (p q : ℕ) → Least n F p → Least n F q → p ≡ q
 one-least n F p q a b =
     cases p q (λ h. absurd (b .least p h (a .at-fault))) (λ h. cases q p (λ l. absurd (a .least q l (b .at-fault))) (λ g. omega arith))
 
-single-rules : (x : Input) → Single (wholeRules x ++ reportRules (reportsOf x) (fastestOf x))
+pub single-rules : (x : Input) → Single (wholeRules x ++ reportRules (reportsOf x) (fastestOf x))
 unfolding Single
 single-rules x =
     (one-whole _, (one-whole _, (one-whole _, (one-whole _, (one-least _ _, (one-least _ _, (one-least _ _, (one-least _ _, (one-place (reportsOf x) (fastestOf x), tt)))))))))
@@ -94,17 +94,25 @@ one-buffer ℓ f working before m n a b v w = (e, ext-getD 0 a b (v .as-long ∙
     number : (i : ℕ) → i < length a → getD a i 0 ≡ getD b i 0
     number i h = cases i (5 * m) (λ l. inside i l) (λ l. v .behind i l ∙ sym (w .behind i (omega (arith, e, l))))
 
+-- by any rules that are given with one place each, and that leave no report without work
+pub one-outcome :
+    (rules : List Rule) (ℓ : Reports) (f : Fraction) (before : List ℕ) → Single rules → (Accepted rules → Working ℓ) →
+    (number place blocks number′ place′ blocks′ : ℕ) (after after′ : List ℕ) →
+    Outcome rules ℓ f before number place blocks after → Outcome rules ℓ f before number′ place′ blocks′ after′ →
+    (number ≡ number′) × (place ≡ place′) × (blocks ≡ blocks′) × (after ≡ after′)
+unfolding Outcome
+one-outcome rules ℓ f before single works zero p b zero p′ b′ a a′ v w =
+    let s = one-buffer ℓ f (works (v .0)) before b b′ a a′ (v .2) (w .2) in
+    (refl, v .1 ∙ sym (w .1), s .0, s .1)
+one-outcome rules ℓ f before single works zero p b (suc n′) p′ b′ a a′ v w = absurd (not-refused rules (v .0) (suc n′) p′ (w .0))
+one-outcome rules ℓ f before single works (suc n) p b zero p′ b′ a a′ v w = absurd (not-refused rules (w .0) (suc n) p (v .0))
+one-outcome rules ℓ f before single works (suc n) p b (suc n′) p′ b′ a a′ v w =
+    let s = one-refusal rules single (suc n) p (suc n′) p′ (v .0) (w .0) in
+    (s .0, s .1, v .1 ∙ sym (w .1), v .2 ∙ sym (w .2))
+
 -- The promise allows one answer and one buffer for each input.
 pub one-result :
     (x : Input) (number place blocks number′ place′ blocks′ : ℕ) (after after′ : List ℕ) →
     PlanOutcome x number place blocks after → PlanOutcome x number′ place′ blocks′ after′ →
     (number ≡ number′) × (place ≡ place′) × (blocks ≡ blocks′) × (after ≡ after′)
-unfolding Outcome
-one-result x zero p b zero p′ b′ a a′ v w =
-    let s = one-buffer (reportsOf x) (fastestOf x) (works x (v .0)) (x .buffer) b b′ a a′ (v .2) (w .2) in
-    (refl, v .1 ∙ sym (w .1), s .0, s .1)
-one-result x zero p b (suc n′) p′ b′ a a′ v w = absurd (not-refused _ (v .0) (suc n′) p′ (w .0))
-one-result x (suc n) p b zero p′ b′ a a′ v w = absurd (not-refused _ (w .0) (suc n) p (v .0))
-one-result x (suc n) p b (suc n′) p′ b′ a a′ v w =
-    let s = one-refusal (wholeRules x ++ reportRules (reportsOf x) (fastestOf x)) (single-rules x) (suc n) p (suc n′) p′ (v .0) (w .0) in
-    (s .0, s .1, v .1 ∙ sym (w .1), v .2 ∙ sym (w .2))
+one-result x = one-outcome (wholeRules x ++ reportRules (reportsOf x) (fastestOf x)) (reportsOf x) (fastestOf x) (x .buffer) (single-rules x) (works x)

@@ -1,3 +1,4 @@
 pub mod FileRules
 pub mod Columns
 pub mod Rolls
+pub mod OneResult
