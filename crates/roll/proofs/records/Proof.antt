@@ -40,7 +40,7 @@ sub-from : tie.Need-sub-from
 sub-from c =
     let l = c .before .before .before .before .before .before .args .roll .now in
     let t = c .before .before .found .given .0 .0 in
-    fits-part l t (found-is l (c .before .before .before .before .read-trailer .result) (c .before .before .before .before .read-trailer .ensures) t (c .before .before .found .given .1))
+    omega (arith, fits-part l t (found-is l (c .before .before .before .before .read-trailer .result) (c .before .before .before .before .read-trailer .ensures) t (c .before .before .found .given .1)))
 
 sub-to : tie.Need-sub-to
 sub-to c =
