@@ -5,9 +5,16 @@ use libc::STDOUT_FILENO;
 use planner::Answer;
 use roll::Fault;
 use roll::RollAnswer;
+ghost use mathlib.Core.Path.{_≡_};
+ghost use Rattle.planner.specs.Outcome.{numberOf, placeOf, blocksOf};
+ghost use Rattle.roll.specs.Answers.{faultNumber, rollNumber, rollPlace, rollBlocks};
+ghost use Rattle.rollplan.specs.Program.{Says};
+ghost use Rattle.text.specs.Text.{TextIs};
 
 // 01's number of a fault of the file.
-fn fault_number(fault: Fault) -> u64 {
+fn fault_number(fault: Fault) -> u64
+    ensures { λ r. ⌜ r ≡ faultNumber fault ⌝ }
+{
     match fault {
         Fault::Short => 10,
         Fault::BadMark => 11,
@@ -17,7 +24,9 @@ fn fault_number(fault: Fault) -> u64 {
 }
 
 // 01's number of an answer.
-fn list_number(answer: Answer) -> u64 {
+fn list_number(answer: Answer) -> u64
+    ensures { λ r. ⌜ r ≡ numberOf answer ⌝ }
+{
     match answer {
         Answer::Planned(_) => 0,
         Answer::Lengths => 1,
@@ -33,27 +42,45 @@ fn list_number(answer: Answer) -> u64 {
 }
 
 // The report it concerns, 0 where no report is.
-fn place(answer: Answer) -> usize {
+fn place(answer: Answer) -> usize
+    ensures { λ r. ⌜ r ≡ placeOf answer ⌝ }
+{
     match answer {
+        Answer::Planned(_) => 0,
+        Answer::Lengths => 0,
+        Answer::TooMany => 0,
+        Answer::ShortBuffer => 0,
+        Answer::BadPace => 0,
         Answer::BadOperations(i) => i,
         Answer::BadArrival(i) => i,
         Answer::BadDeadline(i) => i,
         Answer::ArrivalFalls(i) => i,
         Answer::NoPlan(i) => i,
-        _ => 0,
     }
 }
 
 // The block count, 0 on a refusal.
-fn blocks(answer: Answer) -> usize {
+fn blocks(answer: Answer) -> usize
+    ensures { λ r. ⌜ r ≡ blocksOf answer ⌝ }
+{
     match answer {
         Answer::Planned(n) => n,
-        _ => 0,
+        Answer::Lengths => 0,
+        Answer::TooMany => 0,
+        Answer::ShortBuffer => 0,
+        Answer::BadPace => 0,
+        Answer::BadOperations(_) => 0,
+        Answer::BadArrival(_) => 0,
+        Answer::BadDeadline(_) => 0,
+        Answer::ArrivalFalls(_) => 0,
+        Answer::NoPlan(_) => 0,
     }
 }
 
 // The text of an answer, at the front of out.
-fn say(answer: RollAnswer, rows: &[u32], out: &mut [u8]) -> usize {
+fn say(answer: RollAnswer, rows: &[u32], out: &mut [u8]) -> usize
+    ensures { λ r. ⌜ TextIs (rollNumber answer) (rollPlace answer) (rollBlocks answer) (now (rows .entry)) (now (out .entry)) r (now (out .exit)) ⌝ }
+{
     match answer {
         RollAnswer::File(fault) => text::plan_text(fault_number(fault), 0, 0, rows, out),
         RollAnswer::List(list) => {
@@ -64,8 +91,10 @@ fn say(answer: RollAnswer, rows: &[u32], out: &mut [u8]) -> usize {
     }
 }
 
-// The answer for n bytes: 14 before all others, where the input is longer than 65,536 bytes.
-fn answer(input: &[u8], rows: &mut [u32], out: &mut [u8]) -> usize {
+// The answer for an input: 14 before all others, where the input is longer than 65,536 bytes.
+fn answer(input: &[u8], rows: &mut [u32], out: &mut [u8]) -> usize
+    ensures { λ r. ⌜ Says (now (input .entry)) (now (rows .entry)) (now (out .entry)) r (now (rows .exit)) (now (out .exit)) ⌝ }
+{
     if 65536 < input.len() {
         return text::plan_text(14, 0, 0, rows, out);
     }
