@@ -27,6 +27,13 @@ pub enum Answer {
     NoPlan(usize),
 }
 
+// An answer in 01's numbers: number, place and block count.
+pub struct Reply {
+    pub number: u32,
+    pub place: usize,
+    pub blocks: usize,
+}
+
 // A report, by its offsets.
 pub struct Report {
     pub arrival: u32,
@@ -68,6 +75,71 @@ impl Roll {
         ensures { λ r. ⌜ r ≡ record { reference = reference; p = p; q = q } ⌝ }
     {
         Roll { reference, p, q }
+    }
+}
+
+// 01's number of an answer.
+pub fn number(answer: Answer) -> u32
+    ensures { λ r. ⌜ r ≡ numberOf answer ⌝ }
+{
+    match answer {
+        Answer::Planned(_) => 0,
+        Answer::Lengths => 1,
+        Answer::TooMany => 2,
+        Answer::ShortBuffer => 3,
+        Answer::BadPace => 4,
+        Answer::BadOperations(_) => 5,
+        Answer::BadArrival(_) => 6,
+        Answer::BadDeadline(_) => 7,
+        Answer::ArrivalFalls(_) => 8,
+        Answer::NoPlan(_) => 9,
+    }
+}
+
+// The report it concerns, 0 where no report is.
+pub fn place(answer: Answer) -> usize
+    ensures { λ r. ⌜ r ≡ placeOf answer ⌝ }
+{
+    match answer {
+        Answer::Planned(_) => 0,
+        Answer::Lengths => 0,
+        Answer::TooMany => 0,
+        Answer::ShortBuffer => 0,
+        Answer::BadPace => 0,
+        Answer::BadOperations(i) => i,
+        Answer::BadArrival(i) => i,
+        Answer::BadDeadline(i) => i,
+        Answer::ArrivalFalls(i) => i,
+        Answer::NoPlan(i) => i,
+    }
+}
+
+// The block count, 0 on a refusal.
+pub fn blocks_in(answer: Answer) -> usize
+    ensures { λ r. ⌜ r ≡ blocksOf answer ⌝ }
+{
+    match answer {
+        Answer::Planned(n) => n,
+        Answer::Lengths => 0,
+        Answer::TooMany => 0,
+        Answer::ShortBuffer => 0,
+        Answer::BadPace => 0,
+        Answer::BadOperations(_) => 0,
+        Answer::BadArrival(_) => 0,
+        Answer::BadDeadline(_) => 0,
+        Answer::ArrivalFalls(_) => 0,
+        Answer::NoPlan(_) => 0,
+    }
+}
+
+// An answer in 01's numbers.
+pub fn in_numbers(answer: Answer) -> Reply
+    ensures { λ r. ⌜ (r .number ≡ numberOf answer) × (r .place ≡ placeOf answer) × (r .blocks ≡ blocksOf answer) ⌝ }
+{
+    Reply {
+        number: number(answer),
+        place: place(answer),
+        blocks: blocks_in(answer),
     }
 }
 

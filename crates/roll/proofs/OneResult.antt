@@ -13,20 +13,21 @@ use Rattle.planner.specs.Rules.{Rule, Refused, Accepted, wholeRules, reportRule
 use Rattle.planner.specs.Outcome.{Outcome}
 use Rattle.planner.proofs.OneResult.{Single, one-refusal, not-refused, one-whole, single-rules, works, one-outcome}
 use Rattle.roll.specs.Format.{Marked, backOf, countOf, fileRules, inputOf, RollOutcome}
-use Rattle.roll.specs.Answers.{FoundIs, TrailerIs, PartIs, faultNumber}
+use Rattle.roll.specs.Answers.{FoundIs, TrailerIs, NumbersIs, PartIs, faultNumber}
 use Rattle.roll.specs.declared.Fault.{Fault}
 use Rattle.roll.specs.declared.Fault.the-variants.{Short, BadMark, BadBack, TooFar}
 use Rattle.roll.specs.declared.Trailer.{Trailer}
+use Rattle.roll.specs.declared.Numbers.{Numbers}
 use Rattle.roll.specs.declared.Found.{Found}
 use Rattle.roll.specs.declared.Found.the-variants.{Is, Not}
 use Rattle.roll.proofs.FileRules.{refuses-ten, refuses-eleven, refuses-twelve, refuses-thirteen, accepts-file}
 
 -- ---- each file rule is given with place 0 only
-single-file : (s : List ℕ) → Single (fileRules s)
+pub single-file : (s : List ℕ) → Single (fileRules s)
 unfolding Single
 single-file s = (one-whole _, (one-whole _, (one-whole _, (one-whole _, tt))))
 
-single-roll : (s : List ℕ) (x : Input) → Single (fileRules s ++ (wholeRules x ++ reportRules (reportsOf x) (fastestOf x)))
+pub single-roll : (s : List ℕ) (x : Input) → Single (fileRules s ++ (wholeRules x ++ reportRules (reportsOf x) (fastestOf x)))
 unfolding Single
 single-roll s x = (one-whole _, (one-whole _, (one-whole _, (one-whole _, single-rules x))))
 
@@ -107,3 +108,21 @@ file-decided s = cases (length s) 16 (λ h. inr (Short, refuses-ten s h)) long
 pub one-part : (s part part′ : List ℕ) → PartIs s part → PartIs s part′ → part ≡ part′
 one-part s part part′ v w =
     ⊎-elim (λ a. v .accepted a ∙ sym (w .accepted a)) (λ r. v .refused (faultNumber (r .0)) 0 (r .1) ∙ sym (w .refused (faultNumber (r .0)) 0 (r .1))) (file-decided s)
+
+-- ---- read_numbers, and read
+numbers : ℕ → Trailer → Numbers
+numbers k t = record { refusal = k; trailer = t }
+
+-- The promise of `read_numbers` allows one answer for each string of bytes.
+pub one-numbers : (s : List ℕ) (n n′ : Numbers) → NumbersIs s n → NumbersIs s n′ → n ≡ n′
+unfolding numbers
+one-numbers s n n′ v w =
+    ⊎-elim (λ a. same (v .accepted a .0 ∙ sym (w .accepted a .0)) (one-trailer s (n .trailer) (n′ .trailer) (v .accepted a .1) (w .accepted a .1)))
+    (λ r. let a = v .refused (faultNumber (r .0)) 0 (r .1) in let b = w .refused (faultNumber (r .0)) 0 (r .1) in same (a .0 ∙ sym (b .0)) (a .1 ∙ sym (b .1))) (file-decided s)
+  where
+    same : n .refusal ≡ n′ .refusal → n .trailer ≡ n′ .trailer → n ≡ n′
+    same e t = ap (λ (k : ℕ). numbers k (n .trailer)) e ∙ ap (numbers (n′ .refusal)) t
+
+-- The promise of `read` allows one answer and one part.
+pub one-reading : (s : List ℕ) (n n′ : Numbers) (part part′ : List ℕ) → NumbersIs s n × PartIs s part → NumbersIs s n′ × PartIs s part′ → (n ≡ n′) × (part ≡ part′)
+one-reading s n n′ part part′ v w = (one-numbers s n n′ (v .0) (w .0), one-part s part part′ (v .1) (w .1))

@@ -9,6 +9,7 @@ use Rattle.roll.specs.Format.{referenceOf, countOf, pOf, qOf, fileRules,
 use Rattle.roll.specs.declared.Fault.{Fault}
 use Rattle.roll.specs.declared.Fault.the-variants.{Short, BadMark, BadBack, TooFar}
 use Rattle.roll.specs.declared.Trailer.{Trailer}
+use Rattle.roll.specs.declared.Numbers.{Numbers}
 use Rattle.roll.specs.declared.Found.{Found}
 use Rattle.roll.specs.declared.Found.the-variants.{Is, Not}
 use Rattle.roll.specs.declared.RollAnswer.{RollAnswer}
@@ -32,6 +33,11 @@ pub record TrailerIs (s : List ℕ) (t : Trailer) : Type 0 where
 unfoldable pub FoundIs : List ℕ → Found → Type 0
 FoundIs s (Is t) = Accepted (fileRules s) × TrailerIs s t
 FoundIs s (Not f) = Refused (fileRules s) (faultNumber f) 0
+
+-- The refusal's number and the trailer's numbers: 0 and those of the roll; on a refusal its number, and the others are 0.
+pub record NumbersIs (s : List ℕ) (n : Numbers) : Type 0 where
+  pub accepted : Accepted (fileRules s) → (n .refusal ≡ 0) × TrailerIs s (n .trailer)
+  pub refused : (number place : ℕ) → Refused (fileRules s) number place → (n .refusal ≡ number) × (n .trailer ≡ record { reference = 0; count = 0; p = 0; q = 0 })
 
 -- The part with the records; empty on a refusal.
 pub record PartIs (s part : List ℕ) : Type 0 where

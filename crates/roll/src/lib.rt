@@ -1,6 +1,7 @@
 // The roll: its reader, and planning straight from a roll. The format is specs/Format.antt, what
 // comes back specs/Answers.antt.
 use planner::Answer;
+use planner::Reply;
 use planner::Roll;
 use planner::plan;
 
@@ -12,7 +13,7 @@ ghost use Prim.Native.Nat.{_*_, _≤_};
 ghost use lib.ListN.{length};
 ghost use Rattle.planner.specs.Outcome.{PlanOutcome, numberOf, placeOf, blocksOf};
 ghost use Rattle.roll.specs.Format.{Marked, inputIn, RollOutcome};
-ghost use Rattle.roll.specs.Answers.{FoundIs, HandedUp, PartIs, rollNumber, rollPlace, rollBlocks};
+ghost use Rattle.roll.specs.Answers.{faultNumber, FoundIs, NumbersIs, HandedUp, PartIs, rollNumber, rollPlace, rollBlocks};
 
 // What is wrong with a roll as a file. specs/Answers.antt gives 01's number for each case.
 pub enum Fault {
@@ -37,6 +38,18 @@ impl Trailer {
     pub const BYTES: usize = 16;
 
     pub const RECORD: usize = 12;
+}
+
+// The number of the refusal, 0 where there is none, and the trailer's numbers, 0 on a refusal.
+pub struct Numbers {
+    pub refusal: u32,
+    pub trailer: Trailer,
+}
+
+// What the reader hands back: the numbers, and the part of the caller's bytes that holds the records.
+pub struct Reading<'a> {
+    pub numbers: Numbers,
+    pub part: &'a [u8],
 }
 
 // The trailer, or what is wrong with it.
@@ -92,6 +105,39 @@ pub fn read_trailer(roll: &[u8]) -> Found
     })
 }
 
+// 01's number of a fault of the file.
+pub fn fault_number(fault: Fault) -> u32
+    ensures { λ r. ⌜ r ≡ faultNumber fault ⌝ }
+{
+    match fault {
+        Fault::Short => 10,
+        Fault::BadMark => 11,
+        Fault::BadBack => 12,
+        Fault::TooFar => 13,
+    }
+}
+
+// The refusal's number and the trailer's numbers.
+pub fn read_numbers(roll: &[u8]) -> Numbers
+    ensures { λ r. ⌜ NumbersIs (now (roll .entry)) r ⌝ }
+{
+    match read_trailer(roll) {
+        Found::Is(trailer) => Numbers {
+            refusal: 0,
+            trailer,
+        },
+        Found::Not(fault) => Numbers {
+            refusal: fault_number(fault),
+            trailer: Trailer {
+                reference: 0,
+                count: 0,
+                p: 0,
+                q: 0,
+            },
+        },
+    }
+}
+
 // The part of the caller's bytes that holds the records, no copy; empty where the trailer is refused.
 pub fn records(roll: &[u8]) -> &[u8]
     ensures { λ r. ⌜ PartIs (now (roll .entry)) (now r) ⌝ }
@@ -106,6 +152,16 @@ pub fn records(roll: &[u8]) -> &[u8]
     let from = n - back;
     let to = n - 16;
     &roll[from..to]
+}
+
+// Reads a roll: the trailer's numbers and the part with the records together.
+pub fn read<'a>(roll: &'a [u8]) -> Reading<'a>
+    ensures { λ r. ⌜ NumbersIs (now (roll .entry)) (r .numbers) × PartIs (now (roll .entry)) (now (r .part)) ⌝ }
+{
+    Reading {
+        numbers: read_numbers(roll),
+        part: records(roll),
+    }
 }
 
 // Plans the first count records of a part.
@@ -137,6 +193,20 @@ fn handed_up(found: Found) -> RollAnswer
     match found {
         Found::Is(_) => RollAnswer::List(Answer::Planned(0)),
         Found::Not(fault) => RollAnswer::File(fault),
+    }
+}
+
+// An answer in 01's numbers.
+pub fn in_numbers(answer: RollAnswer) -> Reply
+    ensures { λ r. ⌜ (r .number ≡ rollNumber answer) × (r .place ≡ rollPlace answer) × (r .blocks ≡ rollBlocks answer) ⌝ }
+{
+    match answer {
+        RollAnswer::File(fault) => Reply {
+            number: fault_number(fault),
+            place: 0,
+            blocks: 0,
+        },
+        RollAnswer::List(list) => planner::in_numbers(list),
     }
 }
 

@@ -1,7 +1,6 @@
 // Runs every row of 01's table through plan, and each refusal, and writes two lines for each: number,
 // place and block count; then the buffer, whose 30 numbers are all 7 beforehand.
 use libc::STDOUT_FILENO;
-use planner::Answer;
 
 // Writes a number and a space.
 fn show(n: u64) {
@@ -15,42 +14,6 @@ fn wide(n: u32) -> u64 {
 
 fn line() {
     io::write_all(STDOUT_FILENO, b"\n");
-}
-
-// 01's number of an answer.
-fn number(answer: Answer) -> u64 {
-    match answer {
-        Answer::Planned(_) => 0,
-        Answer::Lengths => 1,
-        Answer::TooMany => 2,
-        Answer::ShortBuffer => 3,
-        Answer::BadPace => 4,
-        Answer::BadOperations(_) => 5,
-        Answer::BadArrival(_) => 6,
-        Answer::BadDeadline(_) => 7,
-        Answer::ArrivalFalls(_) => 8,
-        Answer::NoPlan(_) => 9,
-    }
-}
-
-// The report it concerns, 0 where no report is.
-fn place(answer: Answer) -> usize {
-    match answer {
-        Answer::BadOperations(i) => i,
-        Answer::BadArrival(i) => i,
-        Answer::BadDeadline(i) => i,
-        Answer::ArrivalFalls(i) => i,
-        Answer::NoPlan(i) => i,
-        _ => 0,
-    }
-}
-
-// The block count, 0 on a refusal.
-fn blocks(answer: Answer) -> usize {
-    match answer {
-        Answer::Planned(n) => n,
-        _ => 0,
-    }
 }
 
 // All numbers of a list, on one line.
@@ -75,9 +38,10 @@ fn run(arrivals: &[u32], deadlines: &[u32], operations: &[u32], reference: u32, 
         q,
         &mut buffer,
     );
-    show(number(answer));
-    show(place(answer) as u64);
-    show(blocks(answer) as u64);
+    let reply = planner::in_numbers(answer);
+    show(wide(reply.number));
+    show(reply.place as u64);
+    show(reply.blocks as u64);
     line();
     show_all(&buffer);
 }

@@ -40,6 +40,7 @@ fn put_row(rows: &[u32], k: usize, out: &mut [u8], at: usize) -> usize
 pub fn put_rows(rows: &[u32], blocks: usize, out: &mut [u8], at: usize) -> usize
     requires { ⌜ (5 * blocks ≤ length (now rows)) × (at + 105 * blocks ≤ length (now out)) ⌝ }
     ensures { λ r. ⌜ Puts (now (out .entry)) at (rowLines (now (rows .entry)) blocks) r (now (out .exit)) ⌝ }
+    ensures { λ r. ⌜ r ≤ at + 105 * blocks ⌝ }
 {
     let mut behind = at;
     let mut k = 0;

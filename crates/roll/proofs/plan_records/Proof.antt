@@ -1,7 +1,6 @@
 -- `roll::plan_records` meets its contract: the fronts of the scratch arrays are the columns.
 -- Assumes nothing.
-use Prim.Native.Nat.{_+_, _*_}
-use Rattle.roll.specs.Format.{u32At, columnIn}
+use Rattle.roll.specs.Format.{columnIn}
 use Rattle.roll.proofs.Columns.{front-long}
 use Rattle.roll.proofs.Rolls.{same-lists}
 use borrow.Author.Needs.{needs}
@@ -32,7 +31,7 @@ array-share-prefix-arrivals c = search needs
 slice-aggregate-plan : tie.Need-slice-aggregate-plan
 slice-aggregate-plan c =
     let a = c .before .before .before .before .before .before .before .before .before .before .before .before .args in
-    front-long (λ i. u32At (a .part .now) (12 * i + 0)) (c .before .before .before .before .before .before .before .before .column .last .1 .1 .1 .0) (a .count) (c .before .before .before .before .before .before .before .before .column .ensures)
+    front-long _ (c .before .before .before .before .before .before .before .before .column .last .1 .1 .1 .0) (a .count) (c .before .before .before .before .before .before .before .before .column .ensures)
 
 array-share-prefix-deadlines : tie.Need-array-share-prefix-deadlines
 array-share-prefix-deadlines c = search needs
@@ -40,7 +39,7 @@ array-share-prefix-deadlines c = search needs
 slice-aggregate-plan-2 : tie.Need-slice-aggregate-plan-2
 slice-aggregate-plan-2 c =
     let a = c .before .before .before .before .before .before .before .before .before .before .before .before .before .args in
-    front-long (λ i. u32At (a .part .now) (12 * i + 4)) (c .before .before .before .before .before .before .column2 .last .1 .1 .1 .0) (a .count) (c .before .before .before .before .before .before .column2 .ensures)
+    front-long _ (c .before .before .before .before .before .before .column2 .last .1 .1 .1 .0) (a .count) (c .before .before .before .before .before .before .column2 .ensures)
 
 array-share-prefix-operations : tie.Need-array-share-prefix-operations
 array-share-prefix-operations c = search needs
@@ -48,7 +47,7 @@ array-share-prefix-operations c = search needs
 slice-aggregate-plan-3 : tie.Need-slice-aggregate-plan-3
 slice-aggregate-plan-3 c =
     let a = c .before .before .before .before .before .before .before .before .before .before .before .before .before .before .args in
-    front-long (λ i. u32At (a .part .now) (12 * i + 8)) (c .before .before .before .before .column3 .last .1 .1 .1 .0) (a .count) (c .before .before .before .before .column3 .ensures)
+    front-long _ (c .before .before .before .before .column3 .last .1 .1 .1 .0) (a .count) (c .before .before .before .before .column3 .ensures)
 
 plan-requires : tie.Need-plan-requires
 plan-requires c κs = search needs

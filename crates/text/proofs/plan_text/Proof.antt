@@ -9,7 +9,7 @@ use Rattle.text.proofs.plan_text.Tie as tie
 returns : tie.Need-returns
 returns c =
     let a = c .before .before .before .args in
-    says-nothing (a .number) (a .place) (a .blocks) (a .rows .now) (a .out .now) (λ room. omega (arith, c .if1 .taken, room .few))
+    (says-nothing (a .number) (a .place) (a .blocks) (a .rows .now) (a .out .now) (λ room. omega (arith, c .if1 .taken, room .few)), search needs)
 
 mul-if2 : tie.Need-mul-if2
 mul-if2 c = search needs
@@ -17,7 +17,7 @@ mul-if2 c = search needs
 returns-2 : tie.Need-returns-2
 returns-2 c =
     let a = c .before .before .before .before .args in
-    says-nothing (a .number) (a .place) (a .blocks) (a .rows .now) (a .out .now) (λ room. omega (arith, c .if2 .taken, room .rows-long))
+    (says-nothing (a .number) (a .place) (a .blocks) (a .rows .now) (a .out .now) (λ room. omega (arith, c .if2 .taken, room .rows-long)), search needs)
 
 mul-if3 : tie.Need-mul-if3
 mul-if3 c = search needs
@@ -28,7 +28,7 @@ add-if3 c = search needs
 returns-3 : tie.Need-returns-3
 returns-3 c =
     let a = c .before .before .before .before .before .args in
-    says-nothing (a .number) (a .place) (a .blocks) (a .rows .now) (a .out .now) (λ room. omega (arith, c .if3 .taken, room .out-long))
+    (says-nothing (a .number) (a .place) (a .blocks) (a .rows .now) (a .out .now) (λ room. omega (arith, c .if3 .taken, room .out-long)), search needs)
 
 put-first-requires : tie.Need-put-first-requires
 put-first-requires c κs = search needs
@@ -44,7 +44,7 @@ returns-4 c =
     let a = c .before .before .before .before .before .before .before .before .before .before .before .before .before .args in
     let p = c .before .before .before .before .before .before .put-first in
     let q = c .before .before .put-rows in
-    says (a .number) (a .place) (a .blocks) (a .rows .now) (a .out .now) (p .result) (q .result) (p .last .1 .1 .1 .0) (q .last .1 .1 .0) (record { few = c .before .before .before .before .before .before .before .before .before .before .if1 .left; rows-long = c .before .before .before .before .before .before .before .before .before .if2 .left; out-long = c .before .before .before .before .before .before .before .before .if3 .left }) (p .ensures .0) (q .ensures)
+    (says (a .number) (a .place) (a .blocks) (a .rows .now) (a .out .now) (p .result) (q .result) (p .last .1 .1 .1 .0) (q .last .1 .1 .0) (record { few = c .before .before .before .before .before .before .before .before .before .before .if1 .left; rows-long = c .before .before .before .before .before .before .before .before .before .if2 .left; out-long = c .before .before .before .before .before .before .before .before .if3 .left }) (p .ensures .0) (q .ensures .0), search needs)
 
 pub plan-text-spec : {M : Type 1} → statement M
 plan-text-spec =

@@ -43,7 +43,7 @@ returns : tie.Need-returns Inv-loop μ-loop
 returns c =
     let a = c .before .before .before .before .args in
     let l = c .before .loop in
-    puts-rows (a .out .now) (a .rows .now) (a .at) (l .k) (a .blocks) (l .behind) (l .out) (search needs) (search needs) (l .inv .3)
+    (puts-rows (a .out .now) (a .rows .now) (a .at) (l .k) (a .blocks) (l .behind) (l .out) (search needs) (search needs) (l .inv .3), search needs)
 
 pub put-rows-spec : {M : Type 1} → statement M
 put-rows-spec =

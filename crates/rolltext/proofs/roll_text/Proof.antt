@@ -1,9 +1,9 @@
--- `rollplan::answer` meets its contract: rule 14, or the roll's outcome.
+-- `rolltext::roll_text` meets its contract: rule 14, or the roll's outcome.
 -- Assumes nothing.
-use Rattle.rollplan.proofs.Saying.{says-too-long, says-roll}
+use Rattle.rolltext.proofs.Saying.{says-too-long, says-roll}
 use borrow.Author.Needs.{needs}
-use Rattle.rollplan.proofs.answer.Statement.{statement}
-use Rattle.rollplan.proofs.answer.Tie as tie
+use Rattle.rolltext.proofs.roll_text.Statement.{statement}
+use Rattle.rolltext.proofs.roll_text.Tie as tie
 
 plan-text-requires : tie.Need-plan-text-requires
 plan-text-requires c κs = search needs
@@ -18,7 +18,7 @@ returns : tie.Need-returns
 returns c =
     let a = c .before .before .before .before .before .before .before .before .before .args in
     let t = c .before .before .plan-text in
-    says-too-long (a .input .now) (a .rows .now) (a .out .now) (t .result) (t .last .1 .1 .1 .1 .0) (c .before .before .before .before .before .if1 .taken) (t .ensures)
+    (says-too-long (a .input .now) (a .rows .now) (a .out .now) (t .result) (t .last .1 .1 .1 .1 .0) (c .before .before .before .before .before .if1 .taken) (t .ensures .0), t .ensures .1)
 
 plan-roll-requires : tie.Need-plan-roll-requires
 plan-roll-requires c κs = search needs
@@ -37,10 +37,10 @@ returns-2 c =
     let a = c .before .before .before .before .before .before .before .before .before .before .before .before .before .args in
     let o = c .before .before .before .before .before .before .before .plan-roll in
     let t = c .before .before .say in
-    says-roll (a .input .now) (a .rows .now) (a .out .now) (t .result) (t .last .1 .1 .0) (o .result) (o .last .1 .0) (c .before .before .before .before .before .before .before .before .before .if1 .left) (o .ensures) (t .ensures)
+    (says-roll (a .input .now) (a .rows .now) (a .out .now) (t .result) (t .last .1 .1 .0) (o .result) (o .last .1 .0) (c .before .before .before .before .before .before .before .before .before .if1 .left) (o .ensures) (t .ensures .0), t .ensures .1)
 
-pub answer-spec : {M : Type 1} → statement M
-answer-spec =
+pub roll-text-spec : {M : Type 1} → statement M
+roll-text-spec =
     tie.close
     (tie.spec
     plan-text-requires

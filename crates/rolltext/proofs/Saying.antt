@@ -1,7 +1,7 @@
--- The text of an answer, by its case.
+-- What is said of an input: the text of its outcome, by rule 14 or by the others.
 -- Assumes nothing.
 use Prim.Native.Nat.{ℕ, _≤_, _<_}
-use mathlib.Core.Path.{_≡_, refl, sym, subst}
+use mathlib.Core.Path.{_≡_, refl, subst}
 use mathlib.Core.List.{List, _∷_, _++_}
 use native.Mathlib.Omega.{arith}
 use lib.ListN.{length}
@@ -9,27 +9,18 @@ use Rattle.planner.specs.Offsets.{reportsOf, fastestOf}
 use Rattle.planner.specs.Rules.{wholeRules, reportRules}
 use Rattle.planner.proofs.Outcomes.{refuses, goes-by}
 use Rattle.roll.specs.Format.{fileRules, inputOf, RollOutcome}
-use Rattle.rollplan.specs.Program.{longRule, Says}
-use Rattle.planner.specs.Outcome.{numberOf, placeOf, blocksOf}
-use Rattle.planner.specs.declared.Answer.{Answer}
-use Rattle.roll.specs.Answers.{faultNumber, rollNumber, rollPlace, rollBlocks}
-use Rattle.roll.specs.declared.Fault.{Fault}
+use Rattle.rolltext.specs.Program.{longRule, Says}
+use Rattle.roll.specs.Answers.{rollNumber, rollPlace, rollBlocks}
 use Rattle.roll.specs.declared.RollAnswer.{RollAnswer}
-use Rattle.roll.specs.declared.RollAnswer.the-variants.{File, List as Listed}
 use Rattle.text.specs.Text.{TextIs}
 
-module _ (a : RollAnswer) (rows out : List ℕ) (r : ℕ) (after : List ℕ) where
-  abbrev Said : RollAnswer → Type 0
-  Said x = TextIs (rollNumber x) (rollPlace x) (rollBlocks x) rows out r after
-
-  pub says-file : (f : Fault) (k : ℕ) → a ≡ File f → k ≡ faultNumber f → TextIs k 0 0 rows out r after → Said a
-  says-file f k e n t = subst Said (sym e) (subst (λ (z : ℕ). TextIs z 0 0 rows out r after) n t)
-
-  pub says-list : (l : Answer) (k p b : ℕ) → a ≡ Listed l → k ≡ numberOf l → p ≡ placeOf l → b ≡ blocksOf l → TextIs k p b rows out r after → Said a
-  says-list l k p b e n n′ n″ t =
-      subst Said (sym e)
-      (subst (λ (z : ℕ). TextIs z (placeOf l) (blocksOf l) rows out r after) n
-      (subst (λ (z : ℕ). TextIs k z (blocksOf l) rows out r after) n′ (subst (λ (z : ℕ). TextIs k p z rows out r after) n″ t)))
+-- the text of an answer's numbers is the answer's
+pub says-numbers :
+    (a : RollAnswer) (rows out : List ℕ) (r : ℕ) (after : List ℕ) (k p b : ℕ) → k ≡ rollNumber a → p ≡ rollPlace a → b ≡ rollBlocks a →
+    TextIs k p b rows out r after → TextIs (rollNumber a) (rollPlace a) (rollBlocks a) rows out r after
+says-numbers a rows out r after k p b n n′ n″ t =
+    subst (λ (z : ℕ). TextIs z (rollPlace a) (rollBlocks a) rows out r after) n
+    (subst (λ (z : ℕ). TextIs k z (rollBlocks a) rows out r after) n′ (subst (λ (z : ℕ). TextIs k p z rows out r after) n″ t))
 
 -- ---- rule 14, and the others
 module _ (s buffer out : List ℕ) (r : ℕ) (text : List ℕ) where

@@ -1,0 +1,4 @@
+pub mod Saying
+pub mod OneResult
+pub mod Whole
+pub mod Sample

@@ -1,0 +1,36 @@
+-- The promise of `roll_text` allows one result for each input.
+-- Assumes nothing.
+use Prim.Native.Nat.{ℕ}
+use mathlib.Core.Path.{_≡_, sym, subst}
+use mathlib.Core.List.{List, _∷_, _++_}
+use Rattle.planner.specs.Offsets.{reportsOf, fastestOf}
+use Rattle.planner.specs.Rules.{Accepted, wholeRules, reportRules}
+use Rattle.planner.proofs.OneResult.{Single, one-whole, works, one-outcome}
+use Rattle.roll.specs.Format.{fileRules, inputOf}
+use Rattle.roll.proofs.OneResult.{single-roll}
+use Rattle.text.specs.Text.{TextIs}
+use Rattle.text.proofs.PlanText.{one-text}
+use Rattle.rolltext.specs.Program.{longRule, ProgramOutcome, Says}
+
+pub one-program :
+    (s buffer : List ℕ) (number place blocks number′ place′ blocks′ : ℕ) (after after′ : List ℕ) →
+    ProgramOutcome s buffer number place blocks after → ProgramOutcome s buffer number′ place′ blocks′ after′ →
+    (number ≡ number′) × (place ≡ place′) × (blocks ≡ blocks′) × (after ≡ after′)
+unfolding Accepted Single
+one-program s buffer =
+    let x = inputOf s buffer in
+    one-outcome (longRule s ∷ (fileRules s ++ (wholeRules x ++ reportRules (reportsOf x) (fastestOf x)))) (reportsOf x) (fastestOf x) buffer (one-whole _, single-roll s x) (λ a. works x (a .1 .1 .1 .1 .1))
+
+-- One length, one row buffer and one text.
+pub one-said :
+    (s buffer out : List ℕ) (r r′ : ℕ) (after after′ text text′ : List ℕ) →
+    Says s buffer out r after text → Says s buffer out r′ after′ text′ → (r ≡ r′) × (after ≡ after′) × (text ≡ text′)
+one-said s buffer out r r′ after after′ text text′ v w =
+    let e = one-program s buffer (v .number) (v .place) (v .blocks) (w .number) (w .place) (w .blocks) after after′ (v .outcome) (w .outcome) in
+    let t : TextIs (v .number) (v .place) (v .blocks) after out r′ text′ =
+    subst (λ (k : ℕ). TextIs k (v .place) (v .blocks) after out r′ text′) (sym (e .0))
+    (subst (λ (k : ℕ). TextIs (w .number) k (v .blocks) after out r′ text′) (sym (e .1))
+    (subst (λ (k : ℕ). TextIs (w .number) (w .place) k after out r′ text′) (sym (e .2))
+    (subst (λ (k : List ℕ). TextIs (w .number) (w .place) (w .blocks) k out r′ text′) (sym (e .3)) (w .said)))) in
+    let q = one-text (v .number) (v .place) (v .blocks) after out r r′ text text′ (v .said) t in
+    (q .0, e .3, q .1)
