@@ -2,12 +2,12 @@
 -- far (`Building`), and its measure is what is left of the list.
 -- Assumes nothing.
 use borrow.Author.Needs.{needs}
-use Prim.Native.Nat.{_+_, _-_}
-use mathlib.Core.Path.{sym, subst}
+use Prim.Native.Nat.{ℕ, _+_, _-_}
+use mathlib.Core.Path.{_≡_, sym, subst}
 use lib.ListN.{length}
 use native.Mathlib.Omega.{arith}
-use Rattle.critical.specs.Reports.{listOf}
-use Rattle.planner.specs.Inside.{KeptIs}
+use Rattle.critical.specs.Reports.{Reports, listOf}
+use Rattle.planner.specs.Inside.{KeptIs, EndIs}
 use Rattle.planner.proofs.Building.{Building, builds-from-nothing, builds-on, builds-all, put-room}
 use Rattle.planner.proofs.Searching.{step-ends, step-goes}
 use Rattle.planner.proofs.blocks.blocks.Statement.{statement}
@@ -52,34 +52,53 @@ enum-known-step c = search needs
 enum-known-step-2 : tie.Need-enum-known-step-2 Inv-search μ-search Inv-loop μ-loop
 enum-known-step-2 c = search needs
 
+-- ---- the places of the loops
+-- one turn of the outer loop, behind the search of the inner one: where it stands, by what it was handed
+abbrev Turn : Type 0
+Turn = tie.At-search Inv-search μ-search Inv-loop μ-loop
+
+abbrev turn : Turn → tie.At-loop Inv-search μ-search Inv-loop μ-loop
+turn c = c .before .before .before .before .before
+
+abbrev entry : Turn → tie.Start Inv-search μ-search Inv-loop μ-loop
+entry c = turn c .before .before .before .before .before
+
+abbrev list : Turn → Reports
+list c = listOf (entry c .args .arrivals .now) (entry c .args .deadlines .now) (entry c .args .operations .now)
+
+abbrev from : Turn → ℕ
+from c = c .before .before .later .result
+
+-- a step that goes on keeps what the search keeps, and takes one report
+kept : (c : tie.After-step2 Inv-search μ-search Inv-loop μ-loop) → KeptIs (list (c .before .before .before)) (from (c .before .before .before)) (turn (c .before .before .before) .loop .first) (c .step2 .given .0 .0) × (c .step2 .given .0 .0 .next ≡ c .before .before .before .search .kept .next + 1)
+kept c =
+    let t = c .before .before .before in
+    step-goes (list t) (from t) (turn t .loop .first) _ (c .before .before .take .result) (c .before .before .take .ensures) (c .step2 .given .0 .0) (c .step2 .given .1)
+
+-- one that ends the search has found the block's end
+found : (c : tie.After-step Inv-search μ-search Inv-loop μ-loop) → EndIs (list (c .before .before .before)) (from (c .before .before .before)) (turn (c .before .before .before) .loop .first) (c .step .given .0 .0)
+found c =
+    let t = c .before .before .before in
+    step-ends (list t) (from t) (turn t .loop .first) _ (c .before .before .take .result) (c .before .before .take .ensures) (c .step .given .0 .0) (c .step .given .1)
+
 search-less : tie.Need-search-less Inv-search μ-search Inv-loop μ-loop
 search-less c =
-    let l = c .before .before .before .before .before .before .before .before .before in
-    let s = l .before .before .before .before .before in
-    let a = s .args in
-    let ℓ = listOf (a .arrivals .now) (a .deadlines .now) (a .operations .now) in
-    let next = step-goes ℓ (c .before .before .before .before .before .before .later .result) (l .loop .first) _ (c .before .before .before .take .result) (c .before .before .before .take .ensures) (c .before .step2 .given .0 .0) (c .before .step2 .given .1) .1 in
     let inv = c .before .before .before .before .search .inv in
-    omega (arith, next, inv .kept-in .upto, inv .kept-in .stretch .on-list)
+    omega (arith, kept (c .before) .1, inv .kept-in .upto, inv .kept-in .stretch .on-list)
 
 search-again : tie.Need-search-again Inv-search μ-search Inv-loop μ-loop
-search-again c =
-    let l = c .before .before .before .before .before .before .before .before .before in
-    let s = l .before .before .before .before .before in
-    let a = s .args in
-    let ℓ = listOf (a .arrivals .now) (a .deadlines .now) (a .operations .now) in
-    step-goes ℓ (c .before .before .before .before .before .before .later .result) (l .loop .first) _ (c .before .before .before .take .result) (c .before .before .before .take .ensures) (c .before .step2 .given .0 .0) (c .before .step2 .given .1) .0
+search-again c = kept (c .before) .0
 
 put-row-requires : tie.Need-put-row-requires Inv-search μ-search Inv-loop μ-loop
 put-row-requires c κs =
-    let l = c .before .before .before .before .before .before .before .before .before .before in
-    let s = l .before .before .before .before .before in
+    let t = c .before .before .before .before .before in
+    let l = turn t .loop in
+    let s = entry t in
     let a = s .args in
-    let ℓ = listOf (a .arrivals .now) (a .deadlines .now) (a .operations .now) in
-    let e = c .before .before .step .given .0 .0 in
-    let end-is = step-ends ℓ (c .before .before .before .before .before .before .before .later .result) (l .loop .first) _ (c .before .before .before .before .take .result) (c .before .before .before .before .take .ensures) e (c .before .before .step .given .1) in (
-      put-room (a .arrivals .now) (a .deadlines .now) (a .operations .now) (s .pre .0) (a .rows .now) (s .pre .1) (l .loop .count) (l .loop .first) (l .loop .ended) (c .before .before .before .before .before .before .before .later .result) (l .loop .rows) (l .loop .inv) e end-is (c .before .before .before .before .before .before .before .later .ensures) (c .before .before .before .before .before .before .before .before .before .loop-test .taken),
-      omega (arith, c .before .before .before .before .before .before .before .before .before .loop-test .taken, s .pre .0 .few),
+    let end-is = found (c .before .before) in
+    let more = t .before .before .before .before .loop-test .taken in (
+      put-room (a .arrivals .now) (a .deadlines .now) (a .operations .now) (s .pre .0) (a .rows .now) (s .pre .1) (l .count) (l .first) (l .ended) (from t) (l .rows) (l .inv) (c .before .before .step .given .0 .0) end-is (t .before .before .later .ensures) more,
+      omega (arith, more, s .pre .0 .few),
       omega (arith, end-is .on, end-is .stretch .on-list, s .pre .0 .few),
     )
 
@@ -88,34 +107,25 @@ add-count c = search needs
 
 add-first : tie.Need-add-first Inv-search μ-search Inv-loop μ-loop
 add-first c =
-    let l = c .before .before .before .before .before .before .before .before .before .before .before .before .before in
-    let s = l .before .before .before .before .before in
-    let a = s .args in
-    let ℓ = listOf (a .arrivals .now) (a .deadlines .now) (a .operations .now) in
-    let e = c .before .before .before .before .before .step .given .0 .0 in
-    let end-is = step-ends ℓ (c .before .before .before .before .before .before .before .before .before .before .later .result) (l .loop .first) _ (c .before .before .before .before .before .before .before .take .result) (c .before .before .before .before .before .before .before .take .ensures) e (c .before .before .before .before .before .step .given .1) in
-    omega (arith, end-is .on, end-is .stretch .on-list, s .pre .0 .few)
+    let f = c .before .before .before .before .before in
+    let end-is = found f in
+    omega (arith, end-is .on, end-is .stretch .on-list, entry (f .before .before .before) .pre .0 .few)
 
 loop-less : tie.Need-loop-less Inv-search μ-search Inv-loop μ-loop
 loop-less c =
-    let l = c .before .before .before .before .before .before .before .before .before .before .before .before .before in
-    let s = l .before .before .before .before .before in
-    let a = s .args in
-    let ℓ = listOf (a .arrivals .now) (a .deadlines .now) (a .operations .now) in
-    let e = c .before .before .before .before .before .step .given .0 .0 in
-    let end-is = step-ends ℓ (c .before .before .before .before .before .before .before .before .before .before .later .result) (l .loop .first) _ (c .before .before .before .before .before .before .before .take .result) (c .before .before .before .before .before .before .before .take .ensures) e (c .before .before .before .before .before .step .given .1) in
-    omega (arith, end-is .from, c .before .before .before .before .before .before .before .before .before .before .before .before .loop-test .taken)
+    let f = c .before .before .before .before .before in
+    omega (arith, found f .from, f .before .before .before .before .before .before .before .loop-test .taken)
 
 loop-again : tie.Need-loop-again Inv-search μ-search Inv-loop μ-loop
 loop-again c =
-    let l = c .before .before .before .before .before .before .before .before .before .before .before .before .before in
-    let s = l .before .before .before .before .before in
+    let f = c .before .before .before .before .before in
+    let t = f .before .before .before in
+    let l = turn t .loop in
+    let s = entry t in
     let a = s .args in
-    let ℓ = listOf (a .arrivals .now) (a .deadlines .now) (a .operations .now) in
-    let e = c .before .before .before .before .before .step .given .0 .0 in
-    let end-is = step-ends ℓ (c .before .before .before .before .before .before .before .before .before .before .later .result) (l .loop .first) _ (c .before .before .before .before .before .before .before .take .result) (c .before .before .before .before .before .before .before .take .ensures) e (c .before .before .before .before .before .step .given .1) in
-    subst (Building ℓ (a .rows .now) (l .loop .count + 1) (e .last + 1) (e .time)) (sym (c .before .before .put-row .ensures))
-    (builds-on (a .arrivals .now) (a .deadlines .now) (a .operations .now) (s .pre .0) (a .rows .now) (s .pre .1) (l .loop .count) (l .loop .first) (l .loop .ended) (c .before .before .before .before .before .before .before .before .before .before .later .result) (l .loop .rows) (l .loop .inv) e end-is (c .before .before .before .before .before .before .before .before .before .before .later .ensures) (c .before .before .before .before .before .before .before .before .before .before .before .before .loop-test .taken))
+    let e = f .step .given .0 .0 in
+    subst (Building (list t) (a .rows .now) (l .count + 1) (e .last + 1) (e .time)) (sym (c .before .before .put-row .ensures))
+    (builds-on (a .arrivals .now) (a .deadlines .now) (a .operations .now) (s .pre .0) (a .rows .now) (s .pre .1) (l .count) (l .first) (l .ended) (from t) (l .rows) (l .inv) e (found f) (t .before .before .later .ensures) (t .before .before .before .before .loop-test .taken))
 
 same-length : tie.Need-same-length Inv-search μ-search Inv-loop μ-loop
 same-length c = search needs

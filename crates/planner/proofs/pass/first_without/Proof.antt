@@ -8,7 +8,7 @@ use native.Mathlib.Nat.{not-suc-le-zero}
 use native.Mathlib.Omega.{arith}
 use lib.ListN.{length, getD}
 use Rattle.fraction.specs.Fraction.{over}
-use Rattle.critical.specs.Reports.{listOf}
+use Rattle.critical.specs.Reports.{Reports, listOf}
 use Rattle.critical.proofs.Room.{HoldsTo}
 use Rattle.planner.proofs.Through.{through, through-zero, through-step, stops-at, holds-on, passes, through-bound}
 use Rattle.planner.proofs.pass.first_without.Statement.{statement}
@@ -54,31 +54,46 @@ finish-requires : tie.Need-finish-requires Inv-loop μ-loop
 finish-requires c κs =
     let l = c .before .before .before .before .before in
     let s = l .before .before .before .before in
-    let a = s .args in
-    let p = a .roll .p in
-    let q = a .roll .q in
-    let ℓ = listOf (a .arrivals .now) (a .deadlines .now) (a .operations .now) in
-    let i = l .loop .i in
-    (omega (arith, ap (λ r. r .operations) (c .new .ensures), s .pre .0 .work i (search needs)), s .pre .1 .p-most, s .pre .1 .q-most, omega (arith, l .loop .inv .2, l .loop .inv .0, s .pre .0 .few))
+    (omega (arith, ap (λ r. r .operations) (c .new .ensures), s .pre .0 .work (l .loop .i) (search needs)), s .pre .1 .p-most, s .pre .1 .q-most, omega (arith, l .loop .inv .2, l .loop .inv .0, s .pre .0 .few))
 
 due-requires : tie.Need-due-requires Inv-loop μ-loop
 due-requires c κs = search needs
 
+-- ---- the places of the loop
+-- one turn of the loop, behind the calls for one report: where it stands, and what it was handed
+abbrev Turn : Type 0
+Turn = tie.After-due Inv-loop μ-loop
+
+abbrev turn : Turn → tie.At-loop Inv-loop μ-loop
+turn c = c .before .before .before .before .before .before .before
+
+abbrev entry : Turn → tie.Start Inv-loop μ-loop
+entry c = turn c .before .before .before .before
+
+abbrev list : Turn → Reports
+list c = listOf (entry c .args .arrivals .now) (entry c .args .deadlines .now) (entry c .args .operations .now)
+
+-- the two numbers that are compared: Q times the finish, by the report's own numbers and as the pass has it; and Q times the deadline
+finished : (c : Turn) → c .before .finish .result ≡ max (entry c .args .roll .q * list c .arrival (turn c .loop .i)) (turn c .loop .done) + list c .operations (turn c .loop .i) * entry c .args .roll .p
+finished c = c .before .finish .ensures ∙ ap (λ r. max (entry c .args .roll .q * r .arrival) (turn c .loop .done) + r .operations * entry c .args .roll .p) (c .before .before .new .ensures)
+
+passed : (c : Turn) → c .before .finish .result ≡ through (list c) (entry c .args .roll .p) (entry c .args .roll .q) (turn c .loop .i + 1)
+passed c =
+    let s = entry c in
+    let l = turn c .loop in
+    through-step (list c) (s .args .roll .p) (s .args .roll .q) (s .pre .1 .p-some) (s .pre .1 .q-some) (l .i) (l .done) (c .before .finish .result) (l .inv .1) (finished c)
+
+due : (c : Turn) → c .due .result ≡ entry c .args .roll .q * list c .deadline (turn c .loop .i)
+due c = c .due .ensures ∙ ap (λ r. entry c .args .roll .q * r .deadline) (c .before .before .new .ensures)
+
 returns : tie.Need-returns Inv-loop μ-loop
 returns c =
-    let l = c .before .before .before .before .before .before .before .before in
-    let s = l .before .before .before .before in
-    let a = s .args in
-    let p = a .roll .p in
-    let q = a .roll .q in
-    let ℓ = listOf (a .arrivals .now) (a .deadlines .now) (a .operations .now) in
-    let i = l .loop .i in
-    let e = through-step ℓ p q (s .pre .1 .p-some) (s .pre .1 .q-some) i (l .loop .done) (c .before .before .finish .result) (l .loop .inv .1)
-    (c .before .before .finish .ensures ∙ ap (λ r. max (q * r .arrival) (l .loop .done) + r .operations * p) (c .before .before .before .new .ensures)) in
-    let d : c .before .due .result ≡ q * getD (a .deadlines .now) i 0 = c .before .due .ensures ∙ ap (λ r. q * r .deadline) (c .before .before .before .new .ensures) in
+    let t = c .before in
+    let s = entry t in
+    let l = turn t .loop in
     record {
       within = search needs;
-      stops = λ h. stops-at ℓ p q (s .pre .1 .p-some) (s .pre .1 .q-some) i h (l .loop .inv .3) (omega (arith, e, d, c .if1 .taken));
+      stops = λ h. stops-at (list t) (s .args .roll .p) (s .args .roll .q) (s .pre .1 .p-some) (s .pre .1 .q-some) (l .i) h (l .inv .3) (omega (arith, passed t, due t, c .if1 .taken));
       passes = λ x. absurd (omega (arith, x));
     }
 
@@ -90,20 +105,15 @@ loop-less c = search needs
 
 loop-again : tie.Need-loop-again Inv-loop μ-loop
 loop-again c =
-    let l = c .before .before .before .before .before .before .before .before in
-    let s = l .before .before .before .before in
-    let a = s .args in
-    let p = a .roll .p in
-    let q = a .roll .q in
-    let ℓ = listOf (a .arrivals .now) (a .deadlines .now) (a .operations .now) in
-    let i = l .loop .i in
-    let e = through-step ℓ p q (s .pre .1 .p-some) (s .pre .1 .q-some) i (l .loop .done) (c .before .before .finish .result) (l .loop .inv .1)
-    (c .before .before .finish .ensures ∙ ap (λ r. max (q * r .arrival) (l .loop .done) + r .operations * p) (c .before .before .before .new .ensures)) in
-    let d : c .before .due .result ≡ q * getD (a .deadlines .now) i 0 = c .before .due .ensures ∙ ap (λ r. q * r .deadline) (c .before .before .before .new .ensures) in (
+    let t = c .before in
+    let s = entry t in
+    let l = turn t .loop in
+    let p = s .args .roll .p in
+    let q = s .args .roll .q in (
       search needs,
-      e,
-      omega (arith, c .before .before .finish .ensures ∙ ap (λ r. max (q * r .arrival) (l .loop .done) + r .operations * p) (c .before .before .before .new .ensures), through-bound (getD (a .arrivals .now) i 0) (getD (a .operations .now) i 0) p q (l .loop .done) i (s .pre .0 .arrive i (search needs)) (s .pre .1 .q-most) (s .pre .0 .work i (search needs)) (s .pre .1 .p-most) (l .loop .inv .2)),
-      holds-on ℓ p q (s .pre .1 .p-some) (s .pre .1 .q-some) i (l .loop .inv .3) (omega (arith, e, d, c .if1 .left)),
+      passed t,
+      omega (arith, finished t, through-bound (list t .arrival (l .i)) (list t .operations (l .i)) p q (l .done) (l .i) (s .pre .0 .arrive (l .i) (search needs)) (s .pre .1 .q-most) (s .pre .0 .work (l .i) (search needs)) (s .pre .1 .p-most) (l .inv .2)),
+      holds-on (list t) p q (s .pre .1 .p-some) (s .pre .1 .q-some) (l .i) (l .inv .3) (omega (arith, passed t, due t, c .if1 .left)),
     )
 
 returns-2 : tie.Need-returns-2 Inv-loop μ-loop
