@@ -28,6 +28,7 @@ pub enum Answer {
 }
 
 // An answer in 01's numbers: number, place and block count.
+#[repr(C)]
 pub struct Reply {
     pub number: u32,
     pub place: usize,

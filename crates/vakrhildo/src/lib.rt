@@ -1,0 +1,32 @@
+// The library for other languages: the planner's two entry points under plain names, over numbers and
+// slices. include/vakrhildo.h declares them for C, outside/vakrhildo wraps them for Rust. The promises
+// are those of planner::plan and roll::plan_roll, in 01's numbers.
+use planner::Reply;
+ghost use Rattle.planner.specs.Outcome.{PlanOutcome};
+ghost use Rattle.roll.specs.Format.{RollOutcome};
+
+// Plans a list: three lists of readings, the reference, P and Q, and a buffer for rows.
+#[no_mangle]
+pub extern "C" fn vakrhildo_plan(
+    arrivals: &[u32],
+    deadlines: &[u32],
+    operations: &[u32],
+    reference: u32,
+    p: u32,
+    q: u32,
+    rows: &mut [u32],
+) -> Reply
+    ensures { λ r. ⌜ PlanOutcome (record { arrivals = now (arrivals .entry); deadlines = now (deadlines .entry); operations = now (operations .entry); reference = reference; P = p; Q = q; buffer = now (rows .entry) }) (r .number) (r .place) (r .blocks) (now (rows .exit)) ⌝ }
+{
+    let answer = planner::plan(arrivals, deadlines, operations, reference, p, q, rows);
+    planner::in_numbers(answer)
+}
+
+// Plans the list in a roll, by all the rules, file rules first.
+#[no_mangle]
+pub extern "C" fn vakrhildo_plan_roll(roll: &[u8], rows: &mut [u32]) -> Reply
+    ensures { λ r. ⌜ RollOutcome (now (roll .entry)) (now (rows .entry)) (r .number) (r .place) (r .blocks) (now (rows .exit)) ⌝ }
+{
+    let answer = roll::plan_roll(roll, rows);
+    roll::in_numbers(answer)
+}

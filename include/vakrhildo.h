@@ -1,0 +1,63 @@
+/* Vakrhildo for C: the proved planner. Link with target/staticlib/libvakrhildo.a, which
+   `rt staticlib vakrhildo` writes (x86-64 Linux). Both functions answer every input; they use no
+   heap, no global state and no other library, and about 25 KiB of stack. */
+#ifndef VAKRHILDO_H
+#define VAKRHILDO_H
+
+#include <stddef.h>
+#include <stdint.h>
+
+#ifdef __cplusplus
+extern "C" {
+#endif
+
+/* The most reports, and the numbers of a row: a buffer of VAKRHILDO_ROW * VAKRHILDO_REPORTS numbers
+   is long enough for every list. */
+#define VAKRHILDO_REPORTS 1024
+#define VAKRHILDO_ROW 5
+
+/* number: 0, a plan; else the refusal. The rules are tried in the order 10 to 13 (for a roll), then
+   1 to 9, each over the whole list before the next:
+      10  roll shorter than 16 bytes
+      11  mark wrong (the last two bytes are not "AQ")
+      12  back distance is not 16 + 12 times the count
+      13  back distance exceeds the roll's length
+       1  the three lists differ in length
+       2  more than 1,024 reports
+       3  row buffer shorter than 5 times the reports
+       4  P or Q outside 1 to 65,535
+       5  operations 0 or above 65,535
+       6  arrival offset above 2,147,483,647
+       7  deadline offset above 2,147,483,647
+       8  arrival offset below that of the report before
+       9  no allowed plan: the place is the least i such that reports 0 to i have none
+   place: the least report at fault, 0 where no report is.
+   blocks: how many rows were written; 0 on a refusal. */
+typedef struct {
+    uint32_t number;
+    size_t place;
+    size_t blocks;
+} vakrhildo_reply;
+
+/* Plans a list. arrivals and deadlines are readings of a 32-bit clock that goes on from 0; a reading's
+   offset is reading minus reference, modulo 2^32. P/Q is the fastest pace in ticks per operation. The
+   rows stand at the front of rows, in order, five numbers each: first report, last report (counted from
+   0), start offset, end offset, operations; the numbers behind them stay as they were, and on a refusal
+   all of them. A list of length n is n numbers from its pointer on; where n is 0 the pointer may be any
+   that is not NULL. rows must not overlap the lists. */
+vakrhildo_reply vakrhildo_plan(const uint32_t *arrivals, size_t arrivals_length,
+                               const uint32_t *deadlines, size_t deadlines_length,
+                               const uint32_t *operations, size_t operations_length,
+                               uint32_t reference, uint32_t p, uint32_t q,
+                               uint32_t *rows, size_t rows_length);
+
+/* Plans the list in a roll: a free preface, records of 12 bytes (arrival, deadline, operations), and the
+   trailer of 16 that points back; all little-endian. */
+vakrhildo_reply vakrhildo_plan_roll(const uint8_t *roll, size_t roll_length,
+                                    uint32_t *rows, size_t rows_length);
+
+#ifdef __cplusplus
+}
+#endif
+
+#endif

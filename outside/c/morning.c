@@ -1,0 +1,25 @@
+/* Plans one crowded morning of three reports, then a roll that is read from standard input. */
+#include <stdio.h>
+#include "vakrhildo.h"
+
+static uint32_t rows[VAKRHILDO_ROW * VAKRHILDO_REPORTS];
+static uint8_t roll[65536];
+
+static void show(vakrhildo_reply reply)
+{
+    printf("number %u place %zu blocks %zu\n", reply.number, reply.place, reply.blocks);
+    for (size_t k = 0; k < reply.blocks; k++) {
+        const uint32_t *row = rows + VAKRHILDO_ROW * k;
+        printf("reports %u to %u: from %u to %u, %u operations\n", row[0], row[1], row[2], row[3], row[4]);
+    }
+}
+
+int main(void)
+{
+    const uint32_t arrivals[] = {0, 0, 12}, deadlines[] = {4, 20, 16}, operations[] = {2, 2, 2};
+    show(vakrhildo_plan(arrivals, 3, deadlines, 3, operations, 3, 0, 1, 1, rows, sizeof rows / sizeof *rows));
+    show(vakrhildo_plan(arrivals, 3, deadlines, 2, operations, 3, 0, 1, 1, rows, sizeof rows / sizeof *rows));
+    size_t length = fread(roll, 1, sizeof roll, stdin);
+    show(vakrhildo_plan_roll(roll, length, rows, sizeof rows / sizeof *rows));
+    return 0;
+}

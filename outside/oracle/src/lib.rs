@@ -1,0 +1,134 @@
+//! An independent answerer for lists of reports and for roll files.
+//!
+//! This file holds the public interface: what is handed in (`List`), what comes back (`Answer`),
+//! and the three entry points for a plain list, for a roll and for the whole input of the program.
+//! The rules stand in `rules`, the rows are found in `spans`, rolls are read in `roll`, and `check`
+//! tests an accepted answer against the definitions themselves.
+#![forbid(unsafe_code)]
+#![warn(missing_docs)]
+
+pub mod check;
+mod fraction;
+mod roll;
+mod rules;
+mod spans;
+
+/// The most reports a roll may carry.
+const MOST_REPORTS: usize = 1_024;
+/// Numbers in a row: first report, last report, start, end, operations.
+const ROW_NUMBERS: usize = 5;
+/// The longest input the program takes, in bytes.
+const LONGEST_INPUT: usize = 65_536;
+
+/// What is handed to the planner.
+pub struct List<'a> {
+    /// Arrival readings.
+    pub arrivals: &'a [u32],
+    /// Deadline readings.
+    pub deadlines: &'a [u32],
+    /// Operations of each report.
+    pub operations: &'a [u32],
+    /// The reference reading.
+    pub reference: u32,
+    /// P of the fastest pace P/Q.
+    pub p: u32,
+    /// Q of the fastest pace P/Q.
+    pub q: u32,
+    /// Length of the row buffer in 32-bit numbers.
+    pub room: usize,
+}
+
+/// Number, place, and the rows (empty on a refusal); a row is [first, last, start, end, operations].
+#[derive(Clone, Debug, PartialEq, Eq)]
+pub struct Answer {
+    /// 0 for an accepted list, otherwise the number of the refusal.
+    pub number: u32,
+    /// The least report at fault, 0 where no report is.
+    pub place: u64,
+    /// The blocks in order.
+    pub rows: Vec<[u32; 5]>,
+}
+
+/// Offsets of an accepted list, with its operations and fastest pace, for the checks.
+pub struct Reports {
+    /// Arrival offsets.
+    pub arrival: Vec<u64>,
+    /// Deadline offsets.
+    pub deadline: Vec<u64>,
+    /// Operations.
+    pub operations: Vec<u64>,
+    /// P of the fastest pace P/Q.
+    pub p: u64,
+    /// Q of the fastest pace P/Q.
+    pub q: u64,
+}
+
+/// The answer that refuses with this number at this place.
+fn refused(number: u32, place: u64) -> Answer {
+    Answer {
+        number,
+        place,
+        rows: Vec::new(),
+    }
+}
+
+/// The answer for a plain list: rules 1 to 9 in order, each over the whole list before the next,
+/// then the rows.
+pub fn answer_list(list: &List) -> Answer {
+    match rules::refusal(list) {
+        Some((number, place)) => refused(number, place),
+        None => Answer {
+            number: 0,
+            place: 0,
+            rows: spans::rows(&reports(list), false),
+        },
+    }
+}
+
+/// The answer for a roll: rules 10 to 13 first, then all others on the list in the roll.
+pub fn answer_roll(roll: &[u8], room: usize) -> Answer {
+    match roll::read(roll) {
+        Err(number) => refused(number, 0),
+        Ok(carried) => answer_list(&List {
+            arrivals: &carried.arrivals,
+            deadlines: &carried.deadlines,
+            operations: &carried.operations,
+            reference: carried.reference,
+            p: carried.p,
+            q: carried.q,
+            room,
+        }),
+    }
+}
+
+/// What program `rollplan` prints for this input: refusal 14 before all others, row room for
+/// 1,024 reports.
+pub fn answer_program(input: &[u8]) -> Vec<u8> {
+    let answer = if input.len() > LONGEST_INPUT {
+        refused(14, 0)
+    } else {
+        answer_roll(input, ROW_NUMBERS * MOST_REPORTS)
+    };
+    let mut text = format!(
+        "plan {} {} {}\n",
+        answer.number,
+        answer.place,
+        answer.rows.len()
+    );
+    for [first, last, start, end, operations] in answer.rows {
+        text.push_str(&format!("{first} {last} {start} {end} {operations}\n"));
+    }
+    text.into_bytes()
+}
+
+/// The offsets of the list's readings from its reference, modulo 2^32.
+pub fn reports(list: &List) -> Reports {
+    let offset = |reading: &u32| u64::from(reading.wrapping_sub(list.reference));
+    Reports {
+        arrival: list.arrivals.iter().map(offset).collect(),
+        deadline: list.deadlines.iter().map(offset).collect(),
+        operations: list.operations.iter().map(|&o| u64::from(o)).collect(),
+        p: u64::from(list.p),
+        q: u64::from(list.q),
+    }
+}

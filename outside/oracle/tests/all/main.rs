@@ -1,0 +1,10 @@
+//! All tests of the oracle's public interface.
+
+mod helpers;
+mod plan_checks;
+mod random;
+mod refusals;
+mod sizes;
+mod slips;
+mod sums;
+mod table;
