@@ -1,0 +1,127 @@
+//! What is compared: a list, a roll, or an input of the program; and a line of text for each, from
+//! which it can be run alone (`compare --case LINE`).
+
+use std::fmt::Write;
+
+/// What a planner is handed; `room` is the length of the row buffer.
+#[derive(Clone, Debug, PartialEq, Eq)]
+pub struct List {
+    pub arrivals: Vec<u32>,
+    pub deadlines: Vec<u32>,
+    pub operations: Vec<u32>,
+    pub reference: u32,
+    pub p: u32,
+    pub q: u32,
+    pub room: usize,
+}
+
+#[derive(Clone, Debug, PartialEq, Eq)]
+pub enum Case {
+    List(List),
+    Roll { bytes: Vec<u8>, room: usize },
+    Program { bytes: Vec<u8> },
+}
+
+/// What a planner gives back: number, place and block count.
+pub type Reply = (u32, u64, usize);
+
+/// A planner of lists and one of rolls: the rows go to the front of the buffer.
+pub trait Planner {
+    fn plan(&self, list: &List, rows: &mut [u32]) -> Reply;
+    fn plan_roll(&self, roll: &[u8], rows: &mut [u32]) -> Reply;
+}
+
+/// The proved planner.
+pub struct Proved;
+
+fn reply(answer: Result<usize, vakrhildo::Refusal>) -> Reply {
+    match answer {
+        Ok(blocks) => (0, 0, blocks),
+        Err(refusal) => (refusal.number, refusal.place as u64, 0),
+    }
+}
+
+impl Planner for Proved {
+    fn plan(&self, l: &List, rows: &mut [u32]) -> Reply {
+        reply(vakrhildo::plan(&l.arrivals, &l.deadlines, &l.operations, l.reference, l.p, l.q, rows))
+    }
+
+    fn plan_roll(&self, roll: &[u8], rows: &mut [u32]) -> Reply {
+        reply(vakrhildo::plan_roll(roll, rows))
+    }
+}
+
+fn numbers(list: &[u32]) -> String {
+    list.iter().map(u32::to_string).collect::<Vec<_>>().join(",")
+}
+
+fn hex(bytes: &[u8]) -> String {
+    bytes.iter().fold(String::new(), |mut text, byte| {
+        let _ = write!(text, "{byte:02x}");
+        text
+    })
+}
+
+impl Case {
+    /// The case as one line, without spaces.
+    pub fn line(&self) -> String {
+        match self {
+            Case::List(l) => format!(
+                "list:{}:{}:{}:{}:{}:{}:{}",
+                numbers(&l.arrivals),
+                numbers(&l.deadlines),
+                numbers(&l.operations),
+                l.reference,
+                l.p,
+                l.q,
+                l.room
+            ),
+            Case::Roll { bytes, room } => format!("roll:{}:{room}", hex(bytes)),
+            Case::Program { bytes } => format!("program:{}", hex(bytes)),
+        }
+    }
+
+    /// The case of a line, if it is one.
+    pub fn parse(line: &str) -> Option<Case> {
+        let parts: Vec<&str> = line.trim().split(':').collect();
+        match parts[..] {
+            ["list", a, d, w, reference, p, q, room] => Some(Case::List(List {
+                arrivals: parse_numbers(a)?,
+                deadlines: parse_numbers(d)?,
+                operations: parse_numbers(w)?,
+                reference: reference.parse().ok()?,
+                p: p.parse().ok()?,
+                q: q.parse().ok()?,
+                room: room.parse().ok()?,
+            })),
+            ["roll", bytes, room] => Some(Case::Roll { bytes: parse_hex(bytes)?, room: room.parse().ok()? }),
+            ["program", bytes] => Some(Case::Program { bytes: parse_hex(bytes)? }),
+            _ => None,
+        }
+    }
+}
+
+fn parse_numbers(text: &str) -> Option<Vec<u32>> {
+    text.split(',').filter(|n| !n.is_empty()).map(|n| n.parse().ok()).collect()
+}
+
+fn parse_hex(text: &str) -> Option<Vec<u8>> {
+    if text.len() % 2 != 0 || !text.is_ascii() {
+        return None;
+    }
+    (0..text.len() / 2).map(|i| u8::from_str_radix(&text[2 * i..2 * i + 2], 16).ok()).collect()
+}
+
+#[cfg(test)]
+mod tests {
+    use super::{Case, List};
+
+    #[test]
+    fn a_case_can_be_read_back() {
+        let list = List { arrivals: vec![1, 2], deadlines: vec![], operations: vec![7], reference: 4294967290, p: 2, q: 3, room: 11 };
+        for case in [Case::List(list), Case::Roll { bytes: vec![0, 255, 65], room: 5 }, Case::Program { bytes: vec![] }] {
+            assert_eq!(Case::parse(&case.line()), Some(case));
+        }
+        assert_eq!(Case::parse("roll:0:5"), None);
+    }
+}

@@ -1,0 +1,132 @@
+//! Compares one case with the independent program: the three numbers, every number of the row buffer
+//! and a margin on both sides of it, and, where a plan comes back, the plan with the definitions.
+
+use crate::case::{Case, List, Planner, Reply};
+use crate::tally::Tally;
+use oracle::{Answer, Reports};
+use std::io::Write;
+use std::path::Path;
+use std::process::{Command, Stdio};
+
+/// Numbers before and behind the row buffer that must stay as they are.
+const MARGIN: usize = 8;
+
+/// How a planner's answers are held against the definitions.
+#[derive(Clone, Copy)]
+pub struct Depth {
+    /// Properties 1 to 4 and the deadlines.
+    pub properties: bool,
+    /// Sums at a threshold num/den, against rivals made from a seed.
+    pub threshold: Option<(u64, u64, u64)>,
+}
+
+/// The answer is the oracle's and nothing more.
+pub const ANSWER: Depth = Depth { properties: false, threshold: None };
+/// It is also held against the properties.
+pub const PROPERTIES: Depth = Depth { properties: true, threshold: None };
+
+/// A pattern that no row is likely to have.
+fn pattern(i: usize) -> u32 {
+    0x5a5a_0000 ^ (i as u32).wrapping_mul(2_654_435_761)
+}
+
+/// Runs a planner on a buffer of `room` numbers between two margins; its reply and all the memory.
+fn run(room: usize, plan: impl FnOnce(&mut [u32]) -> Reply) -> (Reply, Vec<u32>) {
+    let mut memory: Vec<u32> = (0..room + 2 * MARGIN).map(pattern).collect();
+    let reply = plan(&mut memory[MARGIN..MARGIN + room]);
+    (reply, memory)
+}
+
+/// Whether a reply and the memory behind it are what the answer says.
+fn same(answer: &Answer, reply: Reply, memory: &[u32]) -> Result<(), String> {
+    let wanted = (answer.number, answer.place, answer.rows.len());
+    if reply != wanted {
+        return Err(format!("number, place and blocks are {reply:?}, wanted {wanted:?}"));
+    }
+    let rows: Vec<u32> = answer.rows.concat();
+    for (i, &found) in memory.iter().enumerate() {
+        let row_number = i.checked_sub(MARGIN).and_then(|at| rows.get(at));
+        let wanted = row_number.copied().unwrap_or(pattern(i));
+        if found != wanted {
+            return Err(format!("number {} of the buffer is {found}, wanted {wanted}", i as i64 - MARGIN as i64));
+        }
+    }
+    Ok(())
+}
+
+/// An accepted answer, held against the definitions.
+fn defined(reports: &Reports, answer: &Answer, depth: Depth, tally: &mut Tally) -> Result<(), String> {
+    if answer.number != 0 {
+        return Ok(());
+    }
+    if depth.properties {
+        oracle::check::plan(reports, &answer.rows)?;
+        tally.plans += 1;
+    }
+    if let Some((num, den, seed)) = depth.threshold {
+        tally.rivals += u64::from(oracle::check::least(reports, &answer.rows, num, den, seed)?);
+    }
+    Ok(())
+}
+
+fn list_of(l: &List) -> oracle::List<'_> {
+    oracle::List {
+        arrivals: &l.arrivals,
+        deadlines: &l.deadlines,
+        operations: &l.operations,
+        reference: l.reference,
+        p: l.p,
+        q: l.q,
+        room: l.room,
+    }
+}
+
+fn judge_list(planner: &dyn Planner, l: &List, depth: Depth, tally: &mut Tally) -> Result<u32, String> {
+    let list = list_of(l);
+    let answer = oracle::answer_list(&list);
+    let (reply, memory) = run(l.room, |rows| planner.plan(l, rows));
+    same(&answer, reply, &memory)?;
+    defined(&oracle::reports(&list), &answer, depth, tally)?;
+    Ok(answer.number)
+}
+
+fn judge_roll(planner: &dyn Planner, bytes: &[u8], room: usize) -> Result<u32, String> {
+    let answer = oracle::answer_roll(bytes, room);
+    let (reply, memory) = run(room, |rows| planner.plan_roll(bytes, rows));
+    same(&answer, reply, &memory)?;
+    Ok(answer.number)
+}
+
+/// Runs rollplan on an input that comes in two pieces.
+fn rollplan(program: &Path, input: &[u8]) -> Result<Vec<u8>, String> {
+    let failed = |e: std::io::Error| format!("{}: {e}", program.display());
+    let mut child = Command::new(program).stdin(Stdio::piped()).stdout(Stdio::piped()).spawn().map_err(failed)?;
+    let mut pipe = child.stdin.take().expect("a pipe");
+    let (front, rest) = input.split_at(input.len() / 2);
+    // The program stops reading once it knows that the input is too long, so a broken pipe is no fault.
+    let _ = pipe.write_all(front).and_then(|()| pipe.flush()).and_then(|()| pipe.write_all(rest));
+    drop(pipe);
+    Ok(child.wait_with_output().map_err(failed)?.stdout)
+}
+
+fn judge_program(program: &Path, input: &[u8]) -> Result<u32, String> {
+    let wanted = oracle::answer_program(input);
+    let found = rollplan(program, input)?;
+    if found != wanted {
+        return Err(format!("wrote {:?}, wanted {:?}", String::from_utf8_lossy(&found), String::from_utf8_lossy(&wanted)));
+    }
+    let text = String::from_utf8_lossy(&wanted).into_owned();
+    Ok(text.split(' ').nth(1).and_then(|n| n.parse().ok()).unwrap_or(0))
+}
+
+/// Compares one case, and counts it. An error says what differs, and how to run the case alone.
+pub fn judge(planner: &dyn Planner, program: &Path, case: &Case, depth: Depth, tally: &mut Tally) -> Result<(), String> {
+    let judged = match case {
+        Case::List(l) => judge_list(planner, l, depth, tally),
+        Case::Roll { bytes, room } => judge_roll(planner, bytes, *room),
+        Case::Program { bytes } => judge_program(program, bytes),
+    };
+    let number = judged.map_err(|what| format!("{what}\nrun it alone: compare --case {}", case.line()))?;
+    tally.answers[number as usize] += 1;
+    Ok(())
+}

@@ -1,0 +1,300 @@
+//! Makes the cases: 01's table, every small list, random lists small and large, near the line between
+//! accepted and refused, lists at the edges of each rule, rolls whole and damaged, inputs of the program.
+
+use crate::case::{Case, List};
+use crate::judge::{Depth, ANSWER, PROPERTIES};
+
+/// Takes a group's name, a case, and how deep it is looked at.
+pub type Take<'a> = dyn FnMut(&'static str, Case, Depth) -> Result<(), String> + 'a;
+
+type Done = Result<(), String>;
+
+/// A small random generator (splitmix64), so that every run makes the same cases.
+pub struct Dice(pub u64);
+
+impl Dice {
+    pub fn next(&mut self) -> u64 {
+        self.0 = self.0.wrapping_add(0x9e37_79b9_7f4a_7c15);
+        let mut z = self.0;
+        z = (z ^ (z >> 30)).wrapping_mul(0xbf58_476d_1ce4_e5b9);
+        z = (z ^ (z >> 27)).wrapping_mul(0x94d0_49bb_1331_11eb);
+        z ^ (z >> 31)
+    }
+
+    /// A number below `bound`.
+    pub fn below(&mut self, bound: u64) -> u64 {
+        self.next() % bound
+    }
+
+    /// True once in `times`.
+    pub fn once_in(&mut self, times: u64) -> bool {
+        self.below(times) == 0
+    }
+}
+
+const TOP: u64 = 2_147_483_647;
+
+fn list(arrivals: &[u32], deadlines: &[u32], operations: &[u32], p: u32, q: u32) -> List {
+    let room = 5 * arrivals.len();
+    List { arrivals: arrivals.into(), deadlines: deadlines.into(), operations: operations.into(), reference: 0, p, q, room }
+}
+
+/// The same list with all readings moved to another reference.
+fn moved(mut l: List, reference: u32) -> List {
+    for reading in l.arrivals.iter_mut().chain(l.deadlines.iter_mut()) {
+        *reading = reading.wrapping_sub(l.reference).wrapping_add(reference);
+    }
+    l.reference = reference;
+    l
+}
+
+/// 01's table, starred and not, and the list with a wrapped reference.
+pub fn table(take: &mut Take) -> Done {
+    let rows: [List; 18] = [
+        list(&[], &[], &[], 1, 1),
+        list(&[0], &[10], &[4], 1, 1),
+        list(&[0], &[4], &[4], 1, 1),
+        list(&[0], &[4], &[5], 1, 1),
+        list(&[0, 0], &[4, 12], &[2, 2], 1, 1),
+        list(&[0, 6], &[10, 10], &[2, 2], 1, 1),
+        list(&[0, 10], &[4, 14], &[2, 2], 1, 1),
+        list(&[0, 4], &[4, 8], &[2, 2], 1, 1),
+        list(&[0, 0], &[10, 5], &[3, 2], 1, 1),
+        list(&[0, 0, 9, 9], &[6, 20, 20, 12], &[2, 2, 1, 1], 1, 1),
+        list(&[0, 0, 12], &[4, 20, 16], &[2, 2, 2], 1, 1),
+        list(&[0], &[2], &[3], 2, 3),
+        list(&[0], &[2], &[4], 2, 3),
+        list(&[0], &[2147483647], &[1], 1, 1),
+        list(&[0], &[2147483648], &[1], 1, 1),
+        list(&[5, 4], &[20, 20], &[2, 2], 1, 1),
+        list(&[5, 4], &[20, 20], &[2, 0], 1, 1),
+        List { reference: 4294967290, ..list(&[4294967295, 3], &[9, 14], &[2, 2], 1, 1) },
+    ];
+    for l in rows {
+        take("rows of 01's table", Case::List(l), PROPERTIES)?;
+    }
+    Ok(())
+}
+
+/// Every list of up to three reports with arrivals 0 to 3, deadlines 0 to 5, operations 0 to 3, at three paces.
+pub fn small(take: &mut Take) -> Done {
+    const REPORTS: u32 = 4 * 6 * 4;
+    let report = |k: u32| (k % 4, k / 4 % 6, k / 24);
+    let mut seen = 0u64;
+    for n in 0..=3u32 {
+        for code in 0..REPORTS.pow(n) {
+            let reports: Vec<_> = (0..n).map(|i| report(code / REPORTS.pow(i) % REPORTS)).collect();
+            let column = |f: fn(&(u32, u32, u32)) -> u32| reports.iter().map(f).collect::<Vec<_>>();
+            for (p, q) in [(1, 1), (2, 1), (1, 2)] {
+                let l = list(&column(|r| r.0), &column(|r| r.1), &column(|r| r.2), p, q);
+                seen += 1;
+                let threshold = (seen % 101 == 0).then_some((1 + seen % 13, 1 + seen % 5, seen));
+                take("every list of up to 3 reports over small numbers", Case::List(l), Depth { properties: true, threshold })?;
+            }
+        }
+    }
+    Ok(())
+}
+
+/// Windows around the finishes at the fastest pace: most keep them barely, a few miss by a tick.
+fn near(dice: &mut Dice, n: usize, numbers: u64, slack: u64) -> List {
+    let (p, q) = (1 + dice.below(numbers), 1 + dice.below(numbers));
+    let most = 1 + dice.below(65_535u64.min(numbers * numbers));
+    let gap = 1 + dice.below(2 * most * p / q + 2);
+    let (mut arrival, mut finish) = (0u64, 0u128);
+    let mut l = list(&[], &[], &[], p as u32, q as u32);
+    for _ in 0..n {
+        let operations = 1 + dice.below(most);
+        arrival += if dice.once_in(3) { 0 } else { dice.below(gap) };
+        finish = finish.max(u128::from(arrival * q)) + u128::from(operations * p);
+        let spare = if dice.once_in(4) { 0 } else { dice.below(slack) };
+        let missed = u64::from(dice.once_in(2 * n as u64));
+        let deadline = (finish.div_ceil(u128::from(q)) as u64 + spare).saturating_sub(missed);
+        l.arrivals.push(arrival.min(TOP) as u32);
+        l.deadlines.push(deadline.min(TOP) as u32);
+        l.operations.push(operations as u32);
+    }
+    l.room = 5 * n;
+    let reference = dice.next() as u32;
+    moved(l, if dice.once_in(2) { reference } else { 0u32.wrapping_sub(dice.below(1 << 20) as u32) })
+}
+
+/// Random lists of up to 8 reports, with sums at random thresholds.
+pub fn random_small(take: &mut Take, dice: &mut Dice, times: u64) -> Done {
+    for _ in 0..times {
+        let n = 1 + dice.below(8) as usize;
+        let numbers = 1 + dice.below(9);
+        let slack = 1 + dice.below(20);
+        let mut l = near(dice, n, numbers, slack);
+        l.room += dice.below(4) as usize;
+        let threshold = dice.once_in(8).then(|| (1 + dice.below(40), 1 + dice.below(12), dice.next()));
+        take("random lists of up to 8 reports", Case::List(l), Depth { properties: true, threshold })?;
+    }
+    Ok(())
+}
+
+/// Random lists of up to `most` reports, near the line.
+pub fn random_large(take: &mut Take, dice: &mut Dice, times: u64, most: u64, group: &'static str) -> Done {
+    for _ in 0..times {
+        let n = 1 + dice.below(most) as usize;
+        let numbers = 1 + dice.below(250);
+        let slack = 1 << dice.below(18);
+        let l = near(dice, n, numbers, slack);
+        let threshold = dice.once_in(10).then(|| (1 + dice.below(4000), 1 + dice.below(40), dice.next()));
+        take(group, Case::List(l), Depth { properties: true, threshold })?;
+    }
+    Ok(())
+}
+
+/// A list that is well formed, and a place in it.
+fn base(dice: &mut Dice) -> (List, usize) {
+    let n = 2 + dice.below(20) as usize;
+    let numbers = 1 + dice.below(60);
+    let l = near(dice, n, numbers, 50);
+    let at = dice.below(n as u64) as usize;
+    (l, at)
+}
+
+/// One thing changed so that a rule of the list is given, or is not given by a hair.
+fn edge(dice: &mut Dice, rule: u64) -> List {
+    let (mut l, at) = base(dice);
+    let hair = dice.below(2);
+    match rule {
+        1 => {
+            let short = 1 + dice.below(2) as usize;
+            let column = match dice.below(3) {
+                0 => &mut l.arrivals,
+                1 => &mut l.deadlines,
+                _ => &mut l.operations,
+            };
+            column.truncate(column.len() - short);
+        }
+        2 => {
+            let n = 1023 + dice.below(4) as usize;
+            l = list(&vec![0; n], &vec![TOP as u32; n], &vec![1; n], 1, 1);
+        }
+        3 => l.room = l.room - 1 + hair as usize,
+        4 => *if dice.once_in(2) { &mut l.p } else { &mut l.q } = [0, 65_535, 65_536, u32::MAX][dice.below(4) as usize],
+        5 => l.operations[at] = [0, 65_535, 65_536, u32::MAX][dice.below(4) as usize],
+        6 => l.arrivals[at] = l.reference.wrapping_add((TOP + hair) as u32),
+        7 => l.deadlines[at] = l.reference.wrapping_add((TOP + hair) as u32),
+        8 => l.arrivals[at] = l.reference.wrapping_add(dice.below(100) as u32),
+        _ => l.deadlines[at] = l.deadlines[at].wrapping_sub(dice.below(3) as u32),
+    }
+    l
+}
+
+/// Lists at the edges of the rules 1 to 9, with buffers too short, just long enough and too long; often two edges at once.
+pub fn edges(take: &mut Take, dice: &mut Dice, times: u64) -> Done {
+    for k in 0..times {
+        let mut l = edge(dice, 1 + k % 9);
+        match dice.below(6) {
+            0 => l.room = dice.below(5 * l.arrivals.len() as u64 + 20) as usize,
+            1 => l.room += dice.below(40) as usize,
+            2 => l.p = [0, 1, 65_535, 65_536][dice.below(4) as usize],
+            _ => {}
+        }
+        take("lists at the edges of the rules", Case::List(l), PROPERTIES)?;
+    }
+    Ok(())
+}
+
+/// The roll of a list, behind a preface.
+fn roll_of(l: &List, preface: &[u8]) -> Vec<u8> {
+    let mut bytes = preface.to_vec();
+    for i in 0..l.arrivals.len() {
+        for number in [l.arrivals[i], l.deadlines[i], l.operations[i]] {
+            bytes.extend(number.to_le_bytes());
+        }
+    }
+    bytes.extend((16 + 12 * l.arrivals.len() as u32).to_le_bytes());
+    bytes.extend(l.reference.to_le_bytes());
+    for number in [l.arrivals.len() as u32, l.p, l.q] {
+        bytes.extend((number as u16).to_le_bytes());
+    }
+    bytes.extend(b"AQ");
+    bytes
+}
+
+fn random_roll(dice: &mut Dice) -> (Vec<u8>, usize) {
+    let n = dice.below(14) as usize;
+    let numbers = 1 + dice.below(60);
+    let l = near(dice, n, numbers, 40);
+    let preface: Vec<u8> = (0..dice.below(40)).map(|_| dice.next() as u8).collect();
+    (roll_of(&l, &preface), n)
+}
+
+/// Damages a roll: cut at either end, bits flipped, trailer numbers replaced, the mark turned, bytes added.
+fn damage(dice: &mut Dice, bytes: &mut Vec<u8>) {
+    let n = bytes.len();
+    match dice.below(8) {
+        0 => bytes.truncate(dice.below(n as u64 + 1) as usize),
+        1 => drop(bytes.drain(..dice.below(n as u64 + 1) as usize)),
+        2 => {
+            let at = dice.below(n as u64) as usize;
+            bytes[at] ^= 1 << dice.below(8);
+        }
+        3 => {
+            let at = n - 1 - dice.below(16) as usize;
+            bytes[at] = dice.next() as u8;
+        }
+        4 => bytes.swap(n - 1, n - 2),
+        5 => {
+            let count = dice.below(1_100) as u16;
+            bytes[n - 8..n - 6].copy_from_slice(&count.to_le_bytes());
+            if dice.once_in(2) {
+                let back = 16 + 12 * u32::from(count);
+                bytes[n - 16..n - 12].copy_from_slice(&back.to_le_bytes());
+            }
+        }
+        6 => bytes.push(dice.next() as u8),
+        _ => bytes[n - 16..n - 12].copy_from_slice(&(dice.next() as u32 >> dice.below(30)).to_le_bytes()),
+    }
+}
+
+/// Rolls with prefaces, most of them damaged, and row buffers of any length.
+pub fn rolls(take: &mut Take, dice: &mut Dice, times: u64) -> Done {
+    for k in 0..times {
+        let (mut bytes, n) = random_roll(dice);
+        if k % 4 != 0 {
+            damage(dice, &mut bytes);
+        }
+        let room = if dice.once_in(5) { dice.below(5 * n as u64 + 5) as usize } else { 5 * n + dice.below(7) as usize };
+        let group = if k % 4 == 0 { "rolls with prefaces" } else { "damaged rolls" };
+        take(group, Case::Roll { bytes, room }, ANSWER)?;
+    }
+    Ok(())
+}
+
+/// Rolls of more than 1,024 records, and of as many as there may be.
+pub fn long_rolls(take: &mut Take, dice: &mut Dice, times: u64) -> Done {
+    for _ in 0..times {
+        let n = 1_022 + dice.below(6) as usize;
+        let l = list(&vec![0; n], &vec![TOP as u32; n], &vec![1; n], 1, 1);
+        take("rolls of about 1,024 records", Case::Roll { bytes: roll_of(&l, &[]), room: 5 * n }, ANSWER)?;
+    }
+    Ok(())
+}
+
+/// Inputs of the program: every front of 01's sample, rolls whole and damaged, and inputs about 65,536 bytes long.
+pub fn inputs(take: &mut Take, dice: &mut Dice, times: u64) -> Done {
+    let sample = roll_of(&List { reference: 100, ..list(&[100, 100], &[104, 112], &[2, 2], 1, 1) }, &[]);
+    for n in 0..=sample.len() {
+        take("inputs of rollplan: fronts of the sample", Case::Program { bytes: sample[..n].to_vec() }, ANSWER)?;
+    }
+    for k in 0..times {
+        let (mut bytes, _) = random_roll(dice);
+        if k % 2 != 0 {
+            damage(dice, &mut bytes);
+        }
+        take("inputs of rollplan: rolls, whole and damaged", Case::Program { bytes }, ANSWER)?;
+    }
+    for k in 0..times / 4 {
+        let (roll, _) = random_roll(dice);
+        let length = [65_536, 65_537, 65_535, 65_537 + dice.below(70_000) as usize][k as usize % 4];
+        let mut bytes = vec![0xaa; length - roll.len()];
+        bytes.extend(roll);
+        take("inputs of rollplan about 65,536 bytes long", Case::Program { bytes }, ANSWER)?;
+    }
+    Ok(())
+}

@@ -1,0 +1,71 @@
+//! Compares the proved planner with the independent program, prints how much was compared, and fails
+//! at the first difference, or where some refusal was met fewer than a hundred times.
+//!
+//! compare PATH-TO-ROLLPLAN [SEED]     all groups
+//! compare --case LINE [PATH]          one case, as a failure prints it
+
+use compare::case::{Case, Proved};
+use compare::judge::{judge, PROPERTIES};
+use compare::made::{self, Dice, Take};
+use compare::tally::Tally;
+use std::path::PathBuf;
+use std::process::ExitCode;
+
+const LEAST_OF_EACH: u64 = 100;
+
+fn groups(take: &mut Take, seed: u64) -> Result<(), String> {
+    let dice = &mut Dice(seed);
+    made::table(take)?;
+    made::small(take)?;
+    made::random_small(take, dice, 1_000_000)?;
+    made::random_large(take, dice, 100_000, 60, "random lists of up to 60 reports near the line")?;
+    made::random_large(take, dice, 3_000, 1_024, "random lists of up to 1,024 reports near the line")?;
+    made::edges(take, dice, 200_000)?;
+    made::rolls(take, dice, 600_000)?;
+    made::long_rolls(take, dice, 300)?;
+    made::inputs(take, dice, 2_000)
+}
+
+fn all(program: PathBuf, seed: u64) -> Result<(), String> {
+    let mut tally = Tally::default();
+    let mut take = |group, case: Case, depth| {
+        judge(&Proved, &program, &case, depth, &mut tally)?;
+        *tally.groups.entry(group).or_insert(0) += 1;
+        Ok(())
+    };
+    groups(&mut take, seed)?;
+    tally.print();
+    let rare = tally.rare(LEAST_OF_EACH);
+    if rare.is_empty() {
+        Ok(())
+    } else {
+        Err(format!("refusals met fewer than {LEAST_OF_EACH} times: {rare:?}"))
+    }
+}
+
+fn run(args: &[String]) -> Result<(), String> {
+    match args {
+        [flag, line, rest @ ..] if flag == "--case" => {
+            let case = Case::parse(line).ok_or("not a case")?;
+            let program = rest.first().map_or("target/bin/rollplan".into(), PathBuf::from);
+            judge(&Proved, &program, &case, PROPERTIES, &mut Tally::default())
+        }
+        [program] => all(program.into(), 1),
+        [program, seed] => all(program.into(), seed.parse().map_err(|_| "SEED is a number")?),
+        _ => Err("compare PATH-TO-ROLLPLAN [SEED], or compare --case LINE [PATH-TO-ROLLPLAN]".into()),
+    }
+}
+
+fn main() -> ExitCode {
+    let args: Vec<String> = std::env::args().skip(1).collect();
+    match run(&args) {
+        Ok(()) => {
+            println!("compare: no difference");
+            ExitCode::SUCCESS
+        }
+        Err(what) => {
+            eprintln!("compare: FAILED: {what}");
+            ExitCode::FAILURE
+        }
+    }
+}
