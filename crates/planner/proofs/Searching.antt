@@ -1,6 +1,6 @@
 -- The laws that the proofs of `search` cite: what one step of the code does to what the search keeps (critical's Search.antt), in the code's numbers.
 -- Assumes nothing.
-use Prim.Native.Nat.{ℕ, zero, suc, _+_, _*_, _-_, _≤_, _<_}
+use Prim.Native.Nat.{ℕ, zero, suc, _+_, _*_, _-_, _≤_, _<_, min}
 use mathlib.Core.Path.{_≡_, refl, sym, _∙_, ap, ap₂, subst}
 use mathlib.Core.Bool.{Bool, true, false, cond}
 use mathlib.Core.List.{List}
@@ -13,6 +13,7 @@ use lib.ListN.{length, getD}
 use borrow.Author.Tests.{leb-true, leb-false, ltb-true, ltb-false}
 use Rattle.fraction.specs.Fraction.{Fraction, _≼_, _≺_, over}
 use Rattle.fraction.proofs.Order.{over-≺, over-≽}
+use Rattle.fraction.proofs.Scale.{cases}
 use Rattle.critical.specs.Reports.{Reports, listOf}
 use Rattle.critical.proofs.Lines.{span, span-one, span-more, span-pos, sum-bound}
 use Rattle.critical.proofs.Search.{Stretch, Scan, Best, _≻_, _≽_, up, down, best-keep, best-take, floor, floor-in, floor-end, stretch-from, high, low, scan-first, scan-more, finds-rise, finds-fall, finds-whole}
@@ -37,11 +38,14 @@ module _ (xs ys : List ℕ) (j : ℕ) where
   pub joins-end : length xs ≤ j + 1 → Joins xs ys j → ⊥
   joins-end h k = omega (arith, k .on)
 
-  pub floor-joined : Joins xs ys j → FloorIs xs ys j (getD xs (j + 1) 0)
-  floor-joined k = record { joined = λ _. ap (λ (i : ℕ). getD xs i 0) (add-one j); apart = λ n. absurd (n k) }
-
-  pub floor-apart : (Joins xs ys j → ⊥) → FloorIs xs ys j (getD ys j 0)
-  floor-apart n = record { joined = λ k. absurd (n k); apart = λ _. refl }
+  -- where there is a next report, the sooner of its arrival and the deadline
+  pub floor-least : (r : ℕ) → j + 1 < length xs → r ≡ min (getD xs (j + 1) 0) (getD ys j 0) → FloorIs xs ys j r
+  floor-least r l e =
+      let next : getD xs (j + 1) 0 ≡ getD xs (suc j) 0 = ap (λ (i : ℕ). getD xs i 0) (add-one j) in
+      record {
+        joined = λ k. omega (arith, e, next, k .meets);
+        apart = λ n. cases (getD ys j 0) (getD xs (suc j) 0) (λ h. omega (arith, e, next, h)) (λ h. absurd (n (record { on = omega (arith, l); meets = h })));
+      }
 
 -- ---- marks
 -- a mark's pace

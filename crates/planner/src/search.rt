@@ -3,7 +3,7 @@
 use fraction::Pace;
 ghost use mathlib.Core.Path.{_≡_};
 ghost use mathlib.Core.Bool.{cond, true, false};
-ghost use Prim.Native.Nat.{_+_, _*_, _-_, _<_};
+ghost use Prim.Native.Nat.{_+_, _*_, _-_, _<_, min};
 ghost use lib.Dec.{ltb};
 ghost use lib.ListN.{length};
 ghost use Rattle.critical.specs.Reports.{listOf};
@@ -93,15 +93,25 @@ fn joins(arrivals: &[u32], deadlines: &[u32], j: usize) -> bool
     }
 }
 
-// The least time at which report j may end: the next arrival where they join, else its deadline.
+// The sooner of two times.
+fn sooner(a: u32, b: u32) -> u32
+    ensures { λ r. ⌜ r ≡ min a b ⌝ }
+{
+    if b < a { b } else { a }
+}
+
+// The least time at which report j may end: the next arrival where they join, else its deadline. That
+// is the sooner of the two, where there is a next report.
 fn floor(arrivals: &[u32], deadlines: &[u32], j: usize) -> u32
     requires { ⌜ (j < length (now deadlines)) × (length (now deadlines) ≡ length (now arrivals)) ⌝ }
     ensures { λ r. ⌜ FloorIs (now (arrivals .entry)) (now (deadlines .entry)) j r ⌝ }
 {
-    if joins(arrivals, deadlines, j) {
-        arrivals[j + 1]
+    let next = j + 1;
+    let due = deadlines[j];
+    if next < arrivals.len() {
+        sooner(arrivals[next], due)
     } else {
-        deadlines[j]
+        due
     }
 }
 

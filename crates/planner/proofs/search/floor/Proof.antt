@@ -1,44 +1,43 @@
 -- `planner::search::floor` meets its contract.
 -- Assumes nothing.
+use Rattle.planner.proofs.Searching.{floor-least}
 use borrow.Author.Needs.{needs}
-use native.Mathlib.Omega.{arith}
-use Rattle.planner.proofs.Searching.{floor-joined, floor-apart}
 use Rattle.planner.proofs.search.floor.Statement.{statement}
 use Rattle.planner.proofs.search.floor.Tie as tie
 
-joins-requires : tie.Need-joins-requires
-joins-requires c κs = search needs
+add-next : tie.Need-add-next
+add-next c = search needs
 
-add-result : tie.Need-add-result
-add-result c = search needs
+mul-due : tie.Need-mul-due
+mul-due c = search needs
 
-mul-result : tie.Need-mul-result
-mul-result c = search needs
+shared-slice-read-due : tie.Need-shared-slice-read-due
+shared-slice-read-due c = search needs
 
-shared-slice-read-result : tie.Need-shared-slice-read-result
-shared-slice-read-result c = omega (arith, c .before .before .joins .ensures .0 (c .before .if1 .taken) .on)
+mul-sooner : tie.Need-mul-sooner
+mul-sooner c = search needs
 
-mul-result-2 : tie.Need-mul-result-2
-mul-result-2 c = search needs
+shared-slice-read-sooner : tie.Need-shared-slice-read-sooner
+shared-slice-read-sooner c = search needs
 
-shared-slice-read-result-2 : tie.Need-shared-slice-read-result-2
-shared-slice-read-result-2 c = search needs
+sooner-requires : tie.Need-sooner-requires
+sooner-requires c κs = search needs
 
 returns : tie.Need-returns
-returns c = floor-joined _ _ _ (c .before .before .joins .ensures .0 (c .before .if1 .taken))
+returns c = let a = c .before .before .before .before .before .before .args in floor-least (a .arrivals .now) (a .deadlines .now) (a .j) (c .sooner .result) (c .before .before .if1 .taken) (c .sooner .ensures)
 
 returns-2 : tie.Need-returns-2
-returns-2 c = floor-apart _ _ _ (c .before .before .joins .ensures .1 (c .before .if1 .left))
+returns-2 c = search needs
 
 pub floor-spec : {M : Type 1} → statement M
 floor-spec =
     tie.close
     (tie.spec
-    joins-requires
-    add-result
-    mul-result
-    shared-slice-read-result
-    mul-result-2
-    shared-slice-read-result-2
+    add-next
+    mul-due
+    shared-slice-read-due
+    mul-sooner
+    shared-slice-read-sooner
+    sooner-requires
     returns
     returns-2)
