@@ -102,3 +102,17 @@ fn main() {
         _ => eprintln!("bench time, or bench once WHICH KIND N"),
     }
 }
+
+#[cfg(test)]
+mod tests {
+    use super::{agree, made, KINDS, SIZES};
+
+    #[test]
+    fn the_three_planners_agree_on_what_is_measured() {
+        for kind in KINDS {
+            for n in SIZES {
+                agree(&made(kind, n).expect("a kind"));
+            }
+        }
+    }
+}

@@ -13,7 +13,7 @@ type Done = Result<(), String>;
 pub struct Dice(pub u64);
 
 impl Dice {
-    pub fn next(&mut self) -> u64 {
+    pub fn roll(&mut self) -> u64 {
         self.0 = self.0.wrapping_add(0x9e37_79b9_7f4a_7c15);
         let mut z = self.0;
         z = (z ^ (z >> 30)).wrapping_mul(0xbf58_476d_1ce4_e5b9);
@@ -23,7 +23,7 @@ impl Dice {
 
     /// A number below `bound`.
     pub fn below(&mut self, bound: u64) -> u64 {
-        self.next() % bound
+        self.roll() % bound
     }
 
     /// True once in `times`.
@@ -88,7 +88,7 @@ pub fn small(take: &mut Take) -> Done {
             for (p, q) in [(1, 1), (2, 1), (1, 2)] {
                 let l = list(&column(|r| r.0), &column(|r| r.1), &column(|r| r.2), p, q);
                 seen += 1;
-                let threshold = (seen % 101 == 0).then_some((1 + seen % 13, 1 + seen % 5, seen));
+                let threshold = seen.is_multiple_of(101).then_some((1 + seen % 13, 1 + seen % 5, seen));
                 take("every list of up to 3 reports over small numbers", Case::List(l), Depth { properties: true, threshold })?;
             }
         }
@@ -115,7 +115,7 @@ fn near(dice: &mut Dice, n: usize, numbers: u64, slack: u64) -> List {
         l.operations.push(operations as u32);
     }
     l.room = 5 * n;
-    let reference = dice.next() as u32;
+    let reference = dice.roll() as u32;
     moved(l, if dice.once_in(2) { reference } else { 0u32.wrapping_sub(dice.below(1 << 20) as u32) })
 }
 
@@ -127,7 +127,7 @@ pub fn random_small(take: &mut Take, dice: &mut Dice, times: u64) -> Done {
         let slack = 1 + dice.below(20);
         let mut l = near(dice, n, numbers, slack);
         l.room += dice.below(4) as usize;
-        let threshold = dice.once_in(8).then(|| (1 + dice.below(40), 1 + dice.below(12), dice.next()));
+        let threshold = dice.once_in(8).then(|| (1 + dice.below(40), 1 + dice.below(12), dice.roll()));
         take("random lists of up to 8 reports", Case::List(l), Depth { properties: true, threshold })?;
     }
     Ok(())
@@ -140,7 +140,7 @@ pub fn random_large(take: &mut Take, dice: &mut Dice, times: u64, most: u64, gro
         let numbers = 1 + dice.below(250);
         let slack = 1 << dice.below(18);
         let l = near(dice, n, numbers, slack);
-        let threshold = dice.once_in(10).then(|| (1 + dice.below(4000), 1 + dice.below(40), dice.next()));
+        let threshold = dice.once_in(10).then(|| (1 + dice.below(4000), 1 + dice.below(40), dice.roll()));
         take(group, Case::List(l), Depth { properties: true, threshold })?;
     }
     Ok(())
@@ -220,7 +220,7 @@ fn random_roll(dice: &mut Dice) -> (Vec<u8>, usize) {
     let n = dice.below(14) as usize;
     let numbers = 1 + dice.below(60);
     let l = near(dice, n, numbers, 40);
-    let preface: Vec<u8> = (0..dice.below(40)).map(|_| dice.next() as u8).collect();
+    let preface: Vec<u8> = (0..dice.below(40)).map(|_| dice.roll() as u8).collect();
     (roll_of(&l, &preface), n)
 }
 
@@ -236,7 +236,7 @@ fn damage(dice: &mut Dice, bytes: &mut Vec<u8>) {
         }
         3 => {
             let at = n - 1 - dice.below(16) as usize;
-            bytes[at] = dice.next() as u8;
+            bytes[at] = dice.roll() as u8;
         }
         4 => bytes.swap(n - 1, n - 2),
         5 => {
@@ -247,8 +247,8 @@ fn damage(dice: &mut Dice, bytes: &mut Vec<u8>) {
                 bytes[n - 16..n - 12].copy_from_slice(&back.to_le_bytes());
             }
         }
-        6 => bytes.push(dice.next() as u8),
-        _ => bytes[n - 16..n - 12].copy_from_slice(&(dice.next() as u32 >> dice.below(30)).to_le_bytes()),
+        6 => bytes.push(dice.roll() as u8),
+        _ => bytes[n - 16..n - 12].copy_from_slice(&(dice.roll() as u32 >> dice.below(30)).to_le_bytes()),
     }
 }
 
