@@ -11,8 +11,9 @@ use Rattle.critical.proofs.Lines.{span}
 use Rattle.critical.proofs.Room.{Roomy}
 use Rattle.critical.proofs.Search.{Stretch, Scan, Found, Ready, floor, rowOf}
 use Rattle.planner.specs.Rules.{Rule}
-use Rattle.planner.specs.Outcome.{rowAt, Outcome, numberOf, placeOf, blocksOf}
-use Rattle.planner.specs.declared.Answer.{Answer}
+use Rattle.answers.specs.Numbers.{numberOf, placeOf, blocksOf}
+use Rattle.planner.specs.Outcome.{rowAt, Outcome}
+use Rattle.answers.specs.declared.Answer.{Answer}
 use Rattle.planner.specs.declared.search.Mark.{Mark}
 use Rattle.planner.specs.declared.search.Kept.{Kept}
 use Rattle.planner.specs.declared.search.End.{End}

@@ -9,45 +9,6 @@ use Rattle.critical.specs.Reports.{Reports}
 use Rattle.critical.specs.Rows.{Row, Critical}
 use Rattle.planner.specs.Offsets.{Input, reportsOf, fastestOf}
 use Rattle.planner.specs.Rules.{Rule, wholeRules, reportRules, Refused, Accepted}
-use Rattle.planner.specs.declared.Answer.{Answer}
-use Rattle.planner.specs.declared.Answer.the-variants.{Planned, Lengths, TooMany, ShortBuffer, BadPace, BadOperations, BadArrival, BadDeadline, ArrivalFalls, NoPlan}
-
--- 01's number, place and block count of each answer.
-abbrev pub numberOf : Answer → ℕ
-numberOf (Planned blocks) = 0
-numberOf Lengths = 1
-numberOf TooMany = 2
-numberOf ShortBuffer = 3
-numberOf BadPace = 4
-numberOf (BadOperations i) = 5
-numberOf (BadArrival i) = 6
-numberOf (BadDeadline i) = 7
-numberOf (ArrivalFalls i) = 8
-numberOf (NoPlan i) = 9
-
-abbrev pub placeOf : Answer → ℕ
-placeOf (Planned blocks) = 0
-placeOf Lengths = 0
-placeOf TooMany = 0
-placeOf ShortBuffer = 0
-placeOf BadPace = 0
-placeOf (BadOperations i) = i
-placeOf (BadArrival i) = i
-placeOf (BadDeadline i) = i
-placeOf (ArrivalFalls i) = i
-placeOf (NoPlan i) = i
-
-abbrev pub blocksOf : Answer → ℕ
-blocksOf (Planned blocks) = blocks
-blocksOf Lengths = 0
-blocksOf TooMany = 0
-blocksOf ShortBuffer = 0
-blocksOf BadPace = 0
-blocksOf (BadOperations i) = 0
-blocksOf (BadArrival i) = 0
-blocksOf (BadDeadline i) = 0
-blocksOf (ArrivalFalls i) = 0
-blocksOf (NoPlan i) = 0
 
 -- Row k of a buffer: five numbers, from place 5k on.
 abbrev pub rowAt : List ℕ → ℕ → Row

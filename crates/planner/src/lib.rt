@@ -1,6 +1,8 @@
 // The planner: rules 1 to 9, the pass at the fastest pace, the search for blocks, and their rows.
 // Its one entry point is plan. The promise is in specs/: Offsets (what it is handed), Rules (the
 // refusals and their order), Outcome (what comes back, and what the row buffer then holds).
+use answers::Answer;
+
 mod blocks;
 mod pass;
 mod rules;
@@ -10,30 +12,8 @@ mod settle;
 ghost use mathlib.Core.Path.{_≡_};
 ghost use mathlib.Core.Bool.{true, false};
 ghost use Rattle.planner.specs.Rules.{Outside};
-ghost use Rattle.planner.specs.Outcome.{PlanOutcome, numberOf, placeOf, blocksOf};
-
-// The answer: the block count, or a refusal with the report it concerns. specs/Outcome.antt gives
-// 01's number, place and block count for each case.
-pub enum Answer {
-    Planned(usize),
-    Lengths,
-    TooMany,
-    ShortBuffer,
-    BadPace,
-    BadOperations(usize),
-    BadArrival(usize),
-    BadDeadline(usize),
-    ArrivalFalls(usize),
-    NoPlan(usize),
-}
-
-// An answer in 01's numbers: number, place and block count.
-#[repr(C)]
-pub struct Reply {
-    pub number: u32,
-    pub place: usize,
-    pub blocks: usize,
-}
+ghost use Rattle.answers.specs.Numbers.{numberOf, placeOf, blocksOf};
+ghost use Rattle.planner.specs.Outcome.{PlanOutcome};
 
 // A report, by its offsets.
 pub struct Report {
@@ -76,71 +56,6 @@ impl Roll {
         ensures { λ r. ⌜ r ≡ record { reference = reference; p = p; q = q } ⌝ }
     {
         Roll { reference, p, q }
-    }
-}
-
-// 01's number of an answer.
-pub fn number(answer: Answer) -> u32
-    ensures { λ r. ⌜ r ≡ numberOf answer ⌝ }
-{
-    match answer {
-        Answer::Planned(_) => 0,
-        Answer::Lengths => 1,
-        Answer::TooMany => 2,
-        Answer::ShortBuffer => 3,
-        Answer::BadPace => 4,
-        Answer::BadOperations(_) => 5,
-        Answer::BadArrival(_) => 6,
-        Answer::BadDeadline(_) => 7,
-        Answer::ArrivalFalls(_) => 8,
-        Answer::NoPlan(_) => 9,
-    }
-}
-
-// The report it concerns, 0 where no report is.
-pub fn place(answer: Answer) -> usize
-    ensures { λ r. ⌜ r ≡ placeOf answer ⌝ }
-{
-    match answer {
-        Answer::Planned(_) => 0,
-        Answer::Lengths => 0,
-        Answer::TooMany => 0,
-        Answer::ShortBuffer => 0,
-        Answer::BadPace => 0,
-        Answer::BadOperations(i) => i,
-        Answer::BadArrival(i) => i,
-        Answer::BadDeadline(i) => i,
-        Answer::ArrivalFalls(i) => i,
-        Answer::NoPlan(i) => i,
-    }
-}
-
-// The block count, 0 on a refusal.
-pub fn blocks_in(answer: Answer) -> usize
-    ensures { λ r. ⌜ r ≡ blocksOf answer ⌝ }
-{
-    match answer {
-        Answer::Planned(n) => n,
-        Answer::Lengths => 0,
-        Answer::TooMany => 0,
-        Answer::ShortBuffer => 0,
-        Answer::BadPace => 0,
-        Answer::BadOperations(_) => 0,
-        Answer::BadArrival(_) => 0,
-        Answer::BadDeadline(_) => 0,
-        Answer::ArrivalFalls(_) => 0,
-        Answer::NoPlan(_) => 0,
-    }
-}
-
-// An answer in 01's numbers.
-pub fn in_numbers(answer: Answer) -> Reply
-    ensures { λ r. ⌜ (r .number ≡ numberOf answer) × (r .place ≡ placeOf answer) × (r .blocks ≡ blocksOf answer) ⌝ }
-{
-    Reply {
-        number: number(answer),
-        place: place(answer),
-        blocks: blocks_in(answer),
     }
 }
 

@@ -1,10 +1,10 @@
 // The rules of the reports, on offsets, and the plan: what is left once the whole list is in order.
-use crate::Answer;
 use crate::Report;
 use crate::Roll;
 use crate::blocks;
 use crate::pass;
 use crate::rules;
+use answers::Answer;
 ghost use Prim.Native.Nat.{_*_, _≤_};
 ghost use lib.ListN.{length};
 ghost use Rattle.critical.specs.Reports.{listOf};

@@ -11,8 +11,9 @@ use Rattle.fraction.proofs.Scale.{cases}
 use Rattle.planner.specs.Rules.{Refused, Accepted}
 use Rattle.planner.proofs.OneResult.{not-refused}
 use Rattle.roll.specs.Format.{Marked, backOf, countOf, fileRules}
-use Rattle.roll.specs.Answers.{PartIs, FoundIs, TrailerIs, faultNumber}
-use Rattle.roll.specs.declared.Fault.{Fault}
+use Rattle.answers.specs.Numbers.{faultNumber}
+use Rattle.roll.specs.Answers.{PartIs, FoundIs, TrailerIs}
+use Rattle.answers.specs.declared.Fault.{Fault}
 use Rattle.roll.specs.declared.Trailer.{Trailer}
 use denote.Enum.Declared.{tagOf}
 use Rattle.roll.specs.declared.Found.{Found}

@@ -6,8 +6,9 @@ use mathlib.Core.List.{List}
 use Rattle.planner.specs.Rules.{Refused, Accepted}
 use Rattle.planner.proofs.OneResult.{one-refusal, not-refused}
 use Rattle.roll.specs.Format.{fileRules}
-use Rattle.roll.specs.Answers.{FoundIs, NumbersIs, faultNumber}
-use Rattle.roll.specs.declared.Fault.{Fault}
+use Rattle.answers.specs.Numbers.{faultNumber}
+use Rattle.roll.specs.Answers.{FoundIs, NumbersIs}
+use Rattle.answers.specs.declared.Fault.{Fault}
 use Rattle.roll.specs.declared.Trailer.{Trailer}
 use Rattle.roll.specs.declared.Numbers.{Numbers}
 use Rattle.roll.specs.declared.Found.{Found}

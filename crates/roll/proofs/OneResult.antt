@@ -13,9 +13,10 @@ use Rattle.planner.specs.Rules.{Rule, Refused, Accepted, wholeRules, reportRule
 use Rattle.planner.specs.Outcome.{Outcome}
 use Rattle.planner.proofs.OneResult.{Single, one-refusal, not-refused, one-whole, single-rules, works, one-outcome}
 use Rattle.roll.specs.Format.{Marked, backOf, countOf, fileRules, inputOf, RollOutcome}
-use Rattle.roll.specs.Answers.{FoundIs, TrailerIs, NumbersIs, PartIs, faultNumber}
-use Rattle.roll.specs.declared.Fault.{Fault}
-use Rattle.roll.specs.declared.Fault.the-variants.{Short, BadMark, BadBack, TooFar}
+use Rattle.answers.specs.Numbers.{faultNumber}
+use Rattle.roll.specs.Answers.{FoundIs, TrailerIs, NumbersIs, PartIs}
+use Rattle.answers.specs.declared.Fault.{Fault}
+use Rattle.answers.specs.declared.Fault.the-variants.{Short, BadMark, BadBack, TooFar}
 use Rattle.roll.specs.declared.Trailer.{Trailer}
 use Rattle.roll.specs.declared.Numbers.{Numbers}
 use Rattle.roll.specs.declared.Found.{Found}

@@ -15,14 +15,15 @@ use Rattle.planner.specs.Rules.{Rule, Refused, Accepted, wholeRules, reportRule
 use Rattle.planner.specs.Outcome.{Outcome, PlanOutcome}
 use Rattle.planner.proofs.Outcomes.{goes-by, refuses-two}
 use Rattle.roll.specs.Format.{u32At, backOf, countOf, referenceOf, pOf, qOf, fileRules, recordsOf, inputIn, inputOf, RollOutcome}
-use Rattle.roll.specs.Answers.{FoundIs, TrailerIs, PartIs, HandedUp, faultNumber, rollNumber, rollPlace, rollBlocks}
-use Rattle.roll.specs.declared.Fault.{Fault}
-use Rattle.roll.specs.declared.Fault.the-variants.{Short, BadMark, BadBack, TooFar}
+use Rattle.answers.specs.Numbers.{faultNumber, rollNumber, rollPlace, rollBlocks}
+use Rattle.roll.specs.Answers.{FoundIs, TrailerIs, PartIs, HandedUp}
+use Rattle.answers.specs.declared.Fault.{Fault}
+use Rattle.answers.specs.declared.Fault.the-variants.{Short, BadMark, BadBack, TooFar}
 use Rattle.roll.specs.declared.Trailer.{Trailer}
 use Rattle.roll.specs.declared.Found.{Found}
 use Rattle.roll.specs.declared.Found.the-variants.{Is, Not}
-use Rattle.roll.specs.declared.RollAnswer.{RollAnswer}
-use Rattle.roll.specs.declared.RollAnswer.the-variants.{File}
+use Rattle.answers.specs.declared.RollAnswer.{RollAnswer}
+use Rattle.answers.specs.declared.RollAnswer.the-variants.{File}
 use Rattle.roll.proofs.Found.{the-type}
 use Rattle.roll.proofs.FileRules.{FileIs, file-is}
 use Rattle.roll.proofs.Columns.{length-listed}

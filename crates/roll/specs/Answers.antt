@@ -4,23 +4,14 @@ use Prim.Native.Nat.{ℕ}
 use mathlib.Core.Path.{_≡_}
 use mathlib.Core.List.{List, []}
 use Rattle.planner.specs.Rules.{Refused, Accepted}
-use Rattle.planner.specs.Outcome.{numberOf, placeOf, blocksOf}
+use Rattle.answers.specs.Numbers.{faultNumber}
 use Rattle.roll.specs.Format.{referenceOf, countOf, pOf, qOf, fileRules, recordsOf}
-use Rattle.roll.specs.declared.Fault.{Fault}
-use Rattle.roll.specs.declared.Fault.the-variants.{Short, BadMark, BadBack, TooFar}
 use Rattle.roll.specs.declared.Trailer.{Trailer}
 use Rattle.roll.specs.declared.Numbers.{Numbers}
 use Rattle.roll.specs.declared.Found.{Found}
 use Rattle.roll.specs.declared.Found.the-variants.{Is, Not}
-use Rattle.roll.specs.declared.RollAnswer.{RollAnswer}
-use Rattle.roll.specs.declared.RollAnswer.the-variants.{File, List as Listed}
-
--- 01's number of each fault of a file.
-abbrev pub faultNumber : Fault → ℕ
-faultNumber Short = 10
-faultNumber BadMark = 11
-faultNumber BadBack = 12
-faultNumber TooFar = 13
+use Rattle.answers.specs.declared.RollAnswer.{RollAnswer}
+use Rattle.answers.specs.declared.RollAnswer.the-variants.{File}
 
 -- A trailer's numbers are those of the roll.
 pub record TrailerIs (s : List ℕ) (t : Trailer) : Type 0 where
@@ -43,19 +34,6 @@ pub record NumbersIs (s : List ℕ) (n : Numbers) : Type 0 where
 pub record PartIs (s part : List ℕ) : Type 0 where
   pub accepted : Accepted (fileRules s) → part ≡ recordsOf s
   pub refused : (number place : ℕ) → Refused (fileRules s) number place → part ≡ []
-
--- 01's number, place and block count of each answer.
-abbrev pub rollNumber : RollAnswer → ℕ
-rollNumber (File f) = faultNumber f
-rollNumber (Listed a) = numberOf a
-
-abbrev pub rollPlace : RollAnswer → ℕ
-rollPlace (File f) = 0
-rollPlace (Listed a) = placeOf a
-
-abbrev pub rollBlocks : RollAnswer → ℕ
-rollBlocks (File f) = 0
-rollBlocks (Listed a) = blocksOf a
 
 -- The refusal of a trailer, handed up.
 unfoldable pub HandedUp : Found → RollAnswer → Type 0

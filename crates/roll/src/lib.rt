@@ -1,7 +1,9 @@
 // The roll: its reader, and planning straight from a roll. The format is specs/Format.antt, what
 // comes back specs/Answers.antt.
-use planner::Answer;
-use planner::Reply;
+use answers::Answer;
+use answers::Fault;
+use answers::RollAnswer;
+use answers::fault_number;
 use planner::Roll;
 use planner::plan;
 
@@ -11,17 +13,10 @@ ghost use mathlib.Core.Path.{_≡_};
 ghost use mathlib.Core.Bool.{true, false};
 ghost use Prim.Native.Nat.{_*_, _≤_};
 ghost use lib.ListN.{length};
-ghost use Rattle.planner.specs.Outcome.{PlanOutcome, numberOf, placeOf, blocksOf};
+ghost use Rattle.answers.specs.Numbers.{numberOf, placeOf, blocksOf, rollNumber, rollPlace, rollBlocks};
+ghost use Rattle.planner.specs.Outcome.{PlanOutcome};
 ghost use Rattle.roll.specs.Format.{Marked, inputIn, RollOutcome};
-ghost use Rattle.roll.specs.Answers.{faultNumber, FoundIs, NumbersIs, HandedUp, PartIs, rollNumber, rollPlace, rollBlocks};
-
-// What is wrong with a roll as a file. specs/Answers.antt gives 01's number for each case.
-pub enum Fault {
-    Short,
-    BadMark,
-    BadBack,
-    TooFar,
-}
+ghost use Rattle.roll.specs.Answers.{FoundIs, NumbersIs, HandedUp, PartIs};
 
 // The trailer's numbers.
 pub struct Trailer {
@@ -56,12 +51,6 @@ pub struct Reading<'a> {
 pub enum Found {
     Is(Trailer),
     Not(Fault),
-}
-
-// The answer for a roll: a fault of the file, or the planner's answer for the list in it.
-pub enum RollAnswer {
-    File(Fault),
-    List(Answer),
 }
 
 // Whether the mark at the roll's end is wrong.
@@ -103,18 +92,6 @@ pub fn read_trailer(roll: &[u8]) -> Found
         p: bytes::u16_at(roll, n - 6),
         q: bytes::u16_at(roll, n - 4),
     })
-}
-
-// 01's number of a fault of the file.
-pub fn fault_number(fault: Fault) -> u32
-    ensures { λ r. ⌜ r ≡ faultNumber fault ⌝ }
-{
-    match fault {
-        Fault::Short => 10,
-        Fault::BadMark => 11,
-        Fault::BadBack => 12,
-        Fault::TooFar => 13,
-    }
 }
 
 // The refusal's number and the trailer's numbers.
@@ -193,20 +170,6 @@ fn handed_up(found: Found) -> RollAnswer
     match found {
         Found::Is(_) => RollAnswer::List(Answer::Planned(0)),
         Found::Not(fault) => RollAnswer::File(fault),
-    }
-}
-
-// An answer in 01's numbers.
-pub fn in_numbers(answer: RollAnswer) -> Reply
-    ensures { λ r. ⌜ (r .number ≡ rollNumber answer) × (r .place ≡ rollPlace answer) × (r .blocks ≡ rollBlocks answer) ⌝ }
-{
-    match answer {
-        RollAnswer::File(fault) => Reply {
-            number: fault_number(fault),
-            place: 0,
-            blocks: 0,
-        },
-        RollAnswer::List(list) => planner::in_numbers(list),
     }
 }
 

@@ -10,8 +10,8 @@ use Rattle.planner.specs.Rules.{wholeRules, reportRules}
 use Rattle.planner.proofs.Outcomes.{refuses, goes-by}
 use Rattle.roll.specs.Format.{fileRules, inputOf, RollOutcome}
 use Rattle.rolltext.specs.Program.{longRule, Says}
-use Rattle.roll.specs.Answers.{rollNumber, rollPlace, rollBlocks}
-use Rattle.roll.specs.declared.RollAnswer.{RollAnswer}
+use Rattle.answers.specs.Numbers.{rollNumber, rollPlace, rollBlocks}
+use Rattle.answers.specs.declared.RollAnswer.{RollAnswer}
 use Rattle.text.specs.Text.{TextIs}
 
 -- the text of an answer's numbers is the answer's

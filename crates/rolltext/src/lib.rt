@@ -1,9 +1,9 @@
 // The text of the plan of a roll: what the program rollplan writes for its input. The promise is
 // specs/Program.antt.
-use roll::RollAnswer;
+use answers::RollAnswer;
 ghost use Prim.Native.Nat.{_≤_};
 ghost use lib.ListN.{length};
-ghost use Rattle.roll.specs.Answers.{rollNumber, rollPlace, rollBlocks};
+ghost use Rattle.answers.specs.Numbers.{rollNumber, rollPlace, rollBlocks};
 ghost use Rattle.rolltext.specs.Program.{Says};
 ghost use Rattle.text.specs.Text.{TextIs};
 
@@ -12,7 +12,7 @@ fn say(answer: RollAnswer, rows: &[u32], out: &mut [u8]) -> usize
     ensures { λ r. ⌜ TextIs (rollNumber answer) (rollPlace answer) (rollBlocks answer) (now (rows .entry)) (now (out .entry)) r (now (out .exit)) ⌝ }
     ensures { λ r. ⌜ r ≤ length (now (out .exit)) ⌝ }
 {
-    let reply = roll::in_numbers(answer);
+    let reply = answers::roll_in_numbers(answer);
     let number = reply.number as u64;
     let place = reply.place as u64;
     text::plan_text(number, place, reply.blocks, rows, out)

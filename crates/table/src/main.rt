@@ -38,7 +38,7 @@ fn run(arrivals: &[u32], deadlines: &[u32], operations: &[u32], reference: u32, 
         q,
         &mut buffer,
     );
-    let reply = planner::in_numbers(answer);
+    let reply = answers::in_numbers(answer);
     show(wide(reply.number));
     show(reply.place as u64);
     show(reply.blocks as u64);

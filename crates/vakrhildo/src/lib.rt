@@ -1,7 +1,7 @@
 // The library for other languages: the planner's two entry points under plain names, over numbers and
 // slices. include/vakrhildo.h declares them for C, outside/vakrhildo wraps them for Rust. The promises
 // are those of planner::plan and roll::plan_roll, in 01's numbers.
-use planner::Reply;
+use answers::Reply;
 ghost use Rattle.planner.specs.Outcome.{PlanOutcome};
 ghost use Rattle.roll.specs.Format.{RollOutcome};
 
@@ -19,7 +19,7 @@ pub extern "C" fn vakrhildo_plan(
     ensures { λ r. ⌜ PlanOutcome (record { arrivals = now (arrivals .entry); deadlines = now (deadlines .entry); operations = now (operations .entry); reference = reference; P = p; Q = q; buffer = now (rows .entry) }) (r .number) (r .place) (r .blocks) (now (rows .exit)) ⌝ }
 {
     let answer = planner::plan(arrivals, deadlines, operations, reference, p, q, rows);
-    planner::in_numbers(answer)
+    answers::in_numbers(answer)
 }
 
 // Plans the list in a roll, by all the rules, file rules first.
@@ -28,5 +28,5 @@ pub extern "C" fn vakrhildo_plan_roll(roll: &[u8], rows: &mut [u32]) -> Reply
     ensures { λ r. ⌜ RollOutcome (now (roll .entry)) (now (rows .entry)) (r .number) (r .place) (r .blocks) (now (rows .exit)) ⌝ }
 {
     let answer = roll::plan_roll(roll, rows);
-    roll::in_numbers(answer)
+    answers::roll_in_numbers(answer)
 }

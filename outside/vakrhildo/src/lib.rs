@@ -72,7 +72,7 @@ pub fn rows(buffer: &[u32], blocks: usize) -> impl Iterator<Item = Row> + '_ {
     buffer.chunks_exact(ROW).take(blocks).map(|n| Row { first: n[0], last: n[1], start: n[2], end: n[3], operations: n[4] })
 }
 
-// planner::Reply, and the functions of crates/vakrhildo: a slice is a pointer and a length.
+// answers::Reply, and the functions of crates/vakrhildo: a slice is a pointer and a length.
 #[repr(C)]
 struct Reply {
     number: u32,

@@ -6,7 +6,8 @@ use mathlib.Core.Logic.{inl, inr}
 use Rattle.fraction.specs.Fraction.{over}
 use Rattle.planner.specs.Offsets.{Input, offsetsOf}
 use Rattle.planner.specs.Rules.{reportRules}
-use Rattle.planner.specs.Outcome.{Outcome, numberOf, placeOf, blocksOf}
+use Rattle.answers.specs.Numbers.{numberOf, placeOf, blocksOf}
+use Rattle.planner.specs.Outcome.{Outcome}
 use Rattle.planner.specs.Inside.{Paced}
 use Rattle.planner.proofs.Outcomes.{refuses-one, refuses-two, refuses-three, refuses-four, goes-to-reports, sized, paced}
 use Rattle.planner.proofs.plan.Statement.{statement}

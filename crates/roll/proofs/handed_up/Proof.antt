@@ -2,7 +2,7 @@
 -- Assumes nothing.
 use mathlib.Core.Path.{refl, sym, subst}
 use Rattle.roll.specs.Answers.{HandedUp}
-use Rattle.roll.specs.declared.RollAnswer.the-variants.{File}
+use Rattle.answers.specs.declared.RollAnswer.the-variants.{File}
 use Rattle.roll.proofs.Rolls.{not-handed, handed}
 use borrow.Author.Needs.{needs}
 use Rattle.roll.proofs.handed_up.Statement.{statement}

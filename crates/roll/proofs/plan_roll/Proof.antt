@@ -1,7 +1,8 @@
 -- `roll::plan_roll` meets its contract: the trailer is refused, or has too many records, or its list is planned.
 -- Assumes nothing.
 use mathlib.Core.Path.{sym, subst}
-use Rattle.planner.specs.Outcome.{PlanOutcome, numberOf, placeOf, blocksOf}
+use Rattle.answers.specs.Numbers.{numberOf, placeOf, blocksOf}
+use Rattle.planner.specs.Outcome.{PlanOutcome}
 use Rattle.roll.specs.Format.{inputIn}
 use Rattle.roll.proofs.FileRules.{found-is}
 use Rattle.roll.proofs.Rolls.{refused-roll, too-many, part-long, planned-roll}

@@ -9,8 +9,8 @@ use Rattle.vakrhildo.proofs.vakrhildo_plan_roll.Tie as tie
 plan-roll-requires : tie.Need-plan-roll-requires
 plan-roll-requires c κs = search needs
 
-in-numbers-requires : tie.Need-in-numbers-requires
-in-numbers-requires c κs = search needs
+roll-in-numbers-requires : tie.Need-roll-in-numbers-requires
+roll-in-numbers-requires c κs = search needs
 
 same-length : tie.Need-same-length
 same-length c = search needs
@@ -19,8 +19,8 @@ returns : tie.Need-returns
 returns c =
     let a = c .before .before .before .before .before .before .before .args in
     let o = c .before .before .before .plan-roll in
-    let n = c .in-numbers in
+    let n = c .roll-in-numbers in
     in-numbers (λ x y z. RollOutcome (a .roll .now) (a .rows .now) x y z (o .last .1 .0)) (n .result .number) (n .result .place) (n .result .blocks) _ _ _ (n .ensures .0) (n .ensures .1) (n .ensures .2) (o .ensures)
 
 pub vakrhildo-plan-roll-spec : {M : Type 1} → statement M
-vakrhildo-plan-roll-spec = tie.close (tie.spec plan-roll-requires in-numbers-requires same-length returns)
+vakrhildo-plan-roll-spec = tie.close (tie.spec plan-roll-requires roll-in-numbers-requires same-length returns)
