@@ -31,6 +31,7 @@ extern "C" {
        7  deadline offset above 2,147,483,647
        8  arrival offset below that of the report before
        9  no allowed plan: the place is the least i such that reports 0 to i have none
+   (14, an input longer than 65,536 bytes, is given by the program rollplan only.)
    place: the least report at fault, 0 where no report is.
    blocks: how many rows were written; 0 on a refusal. */
 typedef struct {

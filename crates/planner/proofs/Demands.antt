@@ -126,13 +126,14 @@ unfolding Accepted over
 pace-positive x w = within-range 1 65535 (x .P) (λ o. w .1 .1 .1 .0 0 (inl o, refl)) .0
 
 -- "Was there a plan that kept every window?" Yes, where the planner gives one: in it every report finishes at or before its deadline, and none runs faster than P/Q.
+-- (That it gives one wherever there is one is `a-well-formed-list-is-refused-exactly-when-there-is-no-plan`, above.)
 pub was-there-a-plan :
     (x : Input) (place blocks : ℕ) (after : List ℕ) →
     PlanOutcome x 0 place blocks after →
     Allowed (reportsOf x) (fastestOf x) (planIn blocks after)
 was-there-a-plan x place blocks after o = an-accepted-list-has-its-blocks x place blocks after o .plan .allowed
 
--- "When a buoy says there is none, how do you know?" Every plan whatever fails; and the reason can be checked by hand: with all reports at the fastest pace, the report
+-- "When a buoy says there is none, how do you know?" Every plan fails that runs no report faster than P/Q; and the reason can be checked by hand: with all reports at the fastest pace, the report
 -- named still comes late.
 pub how-do-you-know-there-is-none :
     (x : Input) (place blocks : ℕ) (after : List ℕ) →
@@ -144,7 +145,8 @@ how-do-you-know-there-is-none x place blocks after o =
     let nine = refused-by-nine (reportsOf x) (fastestOf x) 9 place (split .1) .1 in
     (λ T a. not-both (reportsOf x) (fastestOf x) place (T, a) nine, first-failure (reportsOf x) (fastestOf x) place (pace-positive x (split .0)) .0 nine .2)
 
--- "When it hurries, did it need to?" Yes: at whatever pace c one calls a report hurried, no plan that keeps the list has less hurrying in all, counted by operations.
+-- "When it hurries, did it need to?" Yes, over the whole list: whatever pace c one measures by, no plan that keeps the list has a smaller sum of operations times
+-- shortfall, not even one that runs faster than P/Q.
 pub did-it-need-to-hurry :
     (x : Input) (place blocks : ℕ) (after : List ℕ) →
     PlanOutcome x 0 place blocks after →
