@@ -83,6 +83,7 @@ fn list_of(l: &List) -> oracle::List<'_> {
 
 fn judge_list(planner: &dyn Planner, l: &List, depth: Depth, tally: &mut Tally) -> Result<u32, String> {
     let list = list_of(l);
+    tally.wrapped += u64::from(l.arrivals.iter().chain(&l.deadlines).any(|&reading| reading < l.reference));
     let answer = oracle::answer_list(&list);
     let (reply, memory) = run(l.room, |rows| planner.plan(l, rows));
     same(&answer, reply, &memory)?;

@@ -36,11 +36,13 @@ fn all(program: PathBuf, seed: u64) -> Result<(), String> {
     groups(&mut take, seed)?;
     tally.print();
     let rare = tally.rare(LEAST_OF_EACH);
-    if rare.is_empty() {
-        Ok(())
-    } else {
-        Err(format!("refusals met fewer than {LEAST_OF_EACH} times: {rare:?}"))
+    if !rare.is_empty() {
+        return Err(format!("refusals met fewer than {LEAST_OF_EACH} times: {rare:?}"));
     }
+    if tally.wrapped < LEAST_OF_EACH {
+        return Err("too few lists in which the clock runs past its top".into());
+    }
+    Ok(())
 }
 
 fn run(args: &[String]) -> Result<(), String> {

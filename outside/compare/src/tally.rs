@@ -13,6 +13,8 @@ pub struct Tally {
     pub plans: u64,
     /// Rival plans whose sum at a threshold was compared.
     pub rivals: u64,
+    /// Lists in which the clock runs past its top: some reading is below the reference.
+    pub wrapped: u64,
     /// Cases by the name of the group that made them.
     pub groups: BTreeMap<&'static str, u64>,
 }
@@ -32,6 +34,7 @@ impl Tally {
             println!("  {count:>9}  {group}");
         }
         println!("{} comparisons; {} plans held against the definitions, {} rival plans", self.cases(), self.plans, self.rivals);
+        println!("{} lists in which the clock runs past its top", self.wrapped);
         let refusals: Vec<String> = (0..NUMBERS).map(|number| format!("{number}: {}", self.answers[number])).collect();
         println!("answers by number: {}", refusals.join(", "));
     }
