@@ -115,8 +115,11 @@ fn near(dice: &mut Dice, n: usize, numbers: u64, slack: u64) -> List {
         l.operations.push(operations as u32);
     }
     l.room = 5 * n;
-    let reference = dice.roll() as u32;
-    moved(l, if dice.once_in(2) { reference } else { 0u32.wrapping_sub(dice.below(1 << 20) as u32) })
+    // every other list at any reference, the rest at one from which the clock runs past its top within the list
+    let any = dice.roll() as u32;
+    let latest = u64::from(l.deadlines.iter().copied().max().unwrap_or(0));
+    let wrapping = 0u32.wrapping_sub(dice.below(latest + 2) as u32);
+    moved(l, if dice.once_in(2) { any } else { wrapping })
 }
 
 /// Random lists of up to 8 reports, with sums at random thresholds.
