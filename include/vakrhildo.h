@@ -1,6 +1,6 @@
 /* Vakrhildo for C: the proved planner. Link with target/staticlib/libvakrhildo.a, which
    `rt staticlib vakrhildo` writes (x86-64 Linux). Both functions answer every input; they use no
-   heap, no global state and no other library, and at most 21 KiB of stack. */
+   heap, no global state, nothing of another library but memset, and at most 21 KiB of stack. */
 #ifndef VAKRHILDO_H
 #define VAKRHILDO_H
 
