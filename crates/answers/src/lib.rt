@@ -41,7 +41,7 @@ pub struct Reply {
 }
 
 // 01's number of an answer.
-pub fn number(answer: Answer) -> u32
+fn number(answer: Answer) -> u32
     ensures { λ r. ⌜ r ≡ numberOf answer ⌝ }
 {
     match answer {
@@ -59,7 +59,7 @@ pub fn number(answer: Answer) -> u32
 }
 
 // The report it concerns, 0 where no report is.
-pub fn place(answer: Answer) -> usize
+fn place(answer: Answer) -> usize
     ensures { λ r. ⌜ r ≡ placeOf answer ⌝ }
 {
     match answer {
@@ -77,7 +77,7 @@ pub fn place(answer: Answer) -> usize
 }
 
 // The block count, 0 on a refusal.
-pub fn blocks(answer: Answer) -> usize
+fn blocks(answer: Answer) -> usize
     ensures { λ r. ⌜ r ≡ blocksOf answer ⌝ }
 {
     match answer {

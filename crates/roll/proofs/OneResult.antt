@@ -12,7 +12,7 @@ use Rattle.planner.specs.Offsets.{Input, reportsOf, fastestOf}
 use Rattle.planner.specs.Rules.{Rule, Refused, Accepted, wholeRules, reportRules}
 use Rattle.planner.specs.Outcome.{Outcome}
 use Rattle.planner.proofs.OneResult.{Single, one-refusal, not-refused, one-whole, single-rules, works, one-outcome}
-use Rattle.roll.specs.Format.{Marked, backOf, countOf, fileRules, inputOf, RollOutcome}
+use Rattle.roll.specs.Format.{Marked, backOf, countOf, fileRules, inputOf, rollRules, RollOutcome}
 use Rattle.answers.specs.Numbers.{faultNumber}
 use Rattle.roll.specs.Answers.{FoundIs, TrailerIs, NumbersIs, PartIs}
 use Rattle.answers.specs.declared.Fault.{Fault}
@@ -28,7 +28,7 @@ pub single-file : (s : List ℕ) → Single (fileRules s)
 unfolding Single
 single-file s = (one-whole _, (one-whole _, (one-whole _, (one-whole _, tt))))
 
-pub single-roll : (s : List ℕ) (x : Input) → Single (fileRules s ++ (wholeRules x ++ reportRules (reportsOf x) (fastestOf x)))
+pub single-roll : (s : List ℕ) (x : Input) → Single (rollRules s x)
 unfolding Single
 single-roll s x = (one-whole _, (one-whole _, (one-whole _, (one-whole _, single-rules x))))
 
@@ -41,7 +41,7 @@ pub one-roll :
 unfolding Accepted
 one-roll s buffer =
     let x = inputOf s buffer in
-    one-outcome (fileRules s ++ (wholeRules x ++ reportRules (reportsOf x) (fastestOf x))) (reportsOf x) (fastestOf x) buffer (single-roll s x) (λ a. works x (a .1 .1 .1 .1))
+    one-outcome (rollRules s x) (reportsOf x) (fastestOf x) buffer (single-roll s x) (λ a. works x (a .1 .1 .1 .1))
 
 -- ---- read_trailer
 one-fault : (f g : Fault) → faultNumber f ≡ faultNumber g → f ≡ g

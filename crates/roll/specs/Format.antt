@@ -79,8 +79,11 @@ inputIn part count reference p q buffer = record {
 abbrev pub inputOf : List ℕ → List ℕ → Input
 inputOf s buffer = inputIn (recordsOf s) (countOf s) (referenceOf s) (pOf s) (qOf s) buffer
 
--- The outcome of a roll, by all the rules, file rules first.
+-- All the rules, of a roll and the list in it, file rules first.
+abbrev pub rollRules : List ℕ → Input → List Rule
+rollRules s x = fileRules s ++ (wholeRules x ++ reportRules (reportsOf x) (fastestOf x))
+
+-- The outcome of a roll, by all the rules.
 abbrev pub RollOutcome : List ℕ → List ℕ → ℕ → ℕ → ℕ → List ℕ → Type 0
 RollOutcome s buffer number place blocks after =
-    let x = inputOf s buffer in
-    Outcome (fileRules s ++ (wholeRules x ++ reportRules (reportsOf x) (fastestOf x))) (reportsOf x) (fastestOf x) buffer number place blocks after
+    let x = inputOf s buffer in Outcome (rollRules s x) (reportsOf x) (fastestOf x) buffer number place blocks after

@@ -29,10 +29,8 @@ pub struct Trailer {
 impl Trailer {
     // The mark at the roll's end.
     pub const MARK: [u8; 2] = *b"AQ";
-    // The trailer's bytes, and a record's.
+    // The trailer's bytes.
     pub const BYTES: usize = 16;
-
-    pub const RECORD: usize = 12;
 }
 
 // The number of the refusal, 0 where there is none, and the trailer's numbers, 0 on a refusal.

@@ -4,9 +4,9 @@ use Prim.Native.Nat.{ℕ}
 use mathlib.Core.Path.{_≡_, sym, subst}
 use mathlib.Core.List.{List, _∷_, _++_}
 use Rattle.planner.specs.Offsets.{reportsOf, fastestOf}
-use Rattle.planner.specs.Rules.{Accepted, wholeRules, reportRules}
+use Rattle.planner.specs.Rules.{Accepted}
 use Rattle.planner.proofs.OneResult.{Single, one-whole, works, one-outcome}
-use Rattle.roll.specs.Format.{fileRules, inputOf}
+use Rattle.roll.specs.Format.{inputOf, rollRules}
 use Rattle.roll.proofs.OneResult.{single-roll}
 use Rattle.text.specs.Text.{TextIs}
 use Rattle.text.proofs.PlanText.{one-text}
@@ -19,7 +19,7 @@ pub one-program :
 unfolding Accepted Single
 one-program s buffer =
     let x = inputOf s buffer in
-    one-outcome (longRule s ∷ (fileRules s ++ (wholeRules x ++ reportRules (reportsOf x) (fastestOf x)))) (reportsOf x) (fastestOf x) buffer (one-whole _, single-roll s x) (λ a. works x (a .1 .1 .1 .1 .1))
+    one-outcome (longRule s ∷ rollRules s x) (reportsOf x) (fastestOf x) buffer (one-whole _, single-roll s x) (λ a. works x (a .1 .1 .1 .1 .1))
 
 -- One length, one row buffer and one text.
 pub one-said :

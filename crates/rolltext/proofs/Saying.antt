@@ -6,9 +6,8 @@ use mathlib.Core.List.{List, _∷_, _++_}
 use native.Mathlib.Omega.{arith}
 use lib.ListN.{length}
 use Rattle.planner.specs.Offsets.{reportsOf, fastestOf}
-use Rattle.planner.specs.Rules.{wholeRules, reportRules}
 use Rattle.planner.proofs.Outcomes.{refuses, goes-by}
-use Rattle.roll.specs.Format.{fileRules, inputOf, RollOutcome}
+use Rattle.roll.specs.Format.{inputOf, rollRules, RollOutcome}
 use Rattle.rolltext.specs.Program.{longRule, Says}
 use Rattle.answers.specs.Numbers.{rollNumber, rollPlace, rollBlocks}
 use Rattle.answers.specs.declared.RollAnswer.{RollAnswer}
@@ -31,7 +30,7 @@ module _ (s buffer out : List ℕ) (r : ℕ) (text : List ℕ) where
         number = 14;
         place = 0;
         blocks = 0;
-        outcome = refuses (reportsOf x) (fastestOf x) buffer (longRule s) (fileRules s ++ (wholeRules x ++ reportRules (reportsOf x) (fastestOf x))) 13 0 refl (h, refl);
+        outcome = refuses (reportsOf x) (fastestOf x) buffer (longRule s) (rollRules s x) 13 0 refl (h, refl);
         said = t;
       }
 
@@ -42,6 +41,6 @@ module _ (s buffer out : List ℕ) (r : ℕ) (text : List ℕ) where
         number = rollNumber a;
         place = rollPlace a;
         blocks = rollBlocks a;
-        outcome = goes-by (reportsOf x) (fastestOf x) buffer (longRule s) (fileRules s ++ (wholeRules x ++ reportRules (reportsOf x) (fastestOf x))) (rollNumber a) (rollPlace a) (rollBlocks a) after (λ p g. omega (arith, h, g .0)) o;
+        outcome = goes-by (reportsOf x) (fastestOf x) buffer (longRule s) (rollRules s x) (rollNumber a) (rollPlace a) (rollBlocks a) after (λ p g. omega (arith, h, g .0)) o;
         said = t;
       }
