@@ -1,35 +1,57 @@
-// What is answered for a list and for a roll, and 01's number, place and block count of each answer.
-// The definition is specs/Numbers.antt.
+// What is answered for a list and for a roll: a plan, or a refusal with its number and place; and
+// how many numbers a row of a plan has. The definitions are specs/Numbers.antt.
 ghost use mathlib.Core.Path.{_≡_};
-ghost use Rattle.answers.specs.Numbers.{numberOf, placeOf, blocksOf, faultNumber, rollNumber, rollPlace, rollBlocks};
+ghost use mathlib.Core.List.{[], _∷_};
+ghost use Rattle.answers.specs.Numbers.{numberOf, placeOf, blocksOf};
 
-// The answer: the block count, or a refusal with the report it concerns. specs/Numbers.antt gives
-// 01's number, place and block count for each case.
+// A refusal: its number, and the report it concerns, 0 where no report is.
+pub struct Refusal {
+    pub number: u32,
+    pub place: usize,
+}
+
+// Every number that a refusal can have, said once.
+impl Refusal {
+    // The three lists differ in length.
+    pub const LENGTHS: u32 = 1;
+    // More than 1,024 reports.
+    pub const TOO_MANY: u32 = 2;
+    // The row buffer is too short for the reports.
+    pub const SHORT_BUFFER: u32 = 3;
+    // P or Q is outside 1 to 65,535.
+    pub const BAD_PACE: u32 = 4;
+    // A report's operations are 0 or above 65,535.
+    pub const BAD_OPERATIONS: u32 = 5;
+    // A report's arrival offset is above 2,147,483,647.
+    pub const BAD_ARRIVAL: u32 = 6;
+    // A report's deadline offset is above 2,147,483,647.
+    pub const BAD_DEADLINE: u32 = 7;
+    // A report's arrival offset is below that of the report before.
+    pub const ARRIVAL_FALLS: u32 = 8;
+    // No allowed plan.
+    pub const NO_PLAN: u32 = 9;
+    // The roll is shorter than its trailer.
+    pub const SHORT_ROLL: u32 = 10;
+    // The mark at the roll's end is wrong.
+    pub const BAD_MARK: u32 = 11;
+    // The back distance is not that of the record count.
+    pub const BAD_BACK: u32 = 12;
+    // The back distance exceeds the roll's length.
+    pub const TOO_FAR: u32 = 13;
+    // The program's input is too long.
+    pub const TOO_LONG: u32 = 14;
+
+    pub fn new(number: u32, place: usize) -> Refusal
+        ensures { λ r. ⌜ r ≡ record { number = number; place = place } ⌝ }
+    {
+        Refusal { number, place }
+    }
+}
+
+// The answer: the block count, or the refusal.
 pub enum Answer {
     Planned(usize),
-    Lengths,
-    TooMany,
-    ShortBuffer,
-    BadPace,
-    BadOperations(usize),
-    BadArrival(usize),
-    BadDeadline(usize),
-    ArrivalFalls(usize),
-    NoPlan(usize),
-}
-
-// What is wrong with a roll as a file. specs/Numbers.antt gives 01's number for each case.
-pub enum Fault {
-    Short,
-    BadMark,
-    BadBack,
-    TooFar,
-}
-
-// The answer for a roll: a fault of the file, or the planner's answer for the list in it.
-pub enum RollAnswer {
-    File(Fault),
-    List(Answer),
+    Refused(Refusal),
 }
 
 // An answer in 01's numbers: number, place and block count.
@@ -40,93 +62,47 @@ pub struct Reply {
     pub blocks: usize,
 }
 
-// 01's number of an answer.
-fn number(answer: Answer) -> u32
-    ensures { λ r. ⌜ r ≡ numberOf answer ⌝ }
-{
-    match answer {
-        Answer::Planned(_) => 0,
-        Answer::Lengths => 1,
-        Answer::TooMany => 2,
-        Answer::ShortBuffer => 3,
-        Answer::BadPace => 4,
-        Answer::BadOperations(_) => 5,
-        Answer::BadArrival(_) => 6,
-        Answer::BadDeadline(_) => 7,
-        Answer::ArrivalFalls(_) => 8,
-        Answer::NoPlan(_) => 9,
-    }
-}
-
-// The report it concerns, 0 where no report is.
-fn place(answer: Answer) -> usize
-    ensures { λ r. ⌜ r ≡ placeOf answer ⌝ }
-{
-    match answer {
-        Answer::Planned(_) => 0,
-        Answer::Lengths => 0,
-        Answer::TooMany => 0,
-        Answer::ShortBuffer => 0,
-        Answer::BadPace => 0,
-        Answer::BadOperations(i) => i,
-        Answer::BadArrival(i) => i,
-        Answer::BadDeadline(i) => i,
-        Answer::ArrivalFalls(i) => i,
-        Answer::NoPlan(i) => i,
-    }
-}
-
-// The block count, 0 on a refusal.
-fn blocks(answer: Answer) -> usize
-    ensures { λ r. ⌜ r ≡ blocksOf answer ⌝ }
-{
-    match answer {
-        Answer::Planned(n) => n,
-        Answer::Lengths => 0,
-        Answer::TooMany => 0,
-        Answer::ShortBuffer => 0,
-        Answer::BadPace => 0,
-        Answer::BadOperations(_) => 0,
-        Answer::BadArrival(_) => 0,
-        Answer::BadDeadline(_) => 0,
-        Answer::ArrivalFalls(_) => 0,
-        Answer::NoPlan(_) => 0,
-    }
-}
-
 // An answer in 01's numbers.
 pub fn in_numbers(answer: Answer) -> Reply
     ensures { λ r. ⌜ (r .number ≡ numberOf answer) × (r .place ≡ placeOf answer) × (r .blocks ≡ blocksOf answer) ⌝ }
 {
-    Reply {
-        number: number(answer),
-        place: place(answer),
-        blocks: blocks(answer),
-    }
-}
-
-// 01's number of a fault of the file.
-pub fn fault_number(fault: Fault) -> u32
-    ensures { λ r. ⌜ r ≡ faultNumber fault ⌝ }
-{
-    match fault {
-        Fault::Short => 10,
-        Fault::BadMark => 11,
-        Fault::BadBack => 12,
-        Fault::TooFar => 13,
-    }
-}
-
-// A roll's answer in 01's numbers.
-pub fn roll_in_numbers(answer: RollAnswer) -> Reply
-    ensures { λ r. ⌜ (r .number ≡ rollNumber answer) × (r .place ≡ rollPlace answer) × (r .blocks ≡ rollBlocks answer) ⌝ }
-{
     match answer {
-        RollAnswer::File(fault) => Reply {
-            number: fault_number(fault),
+        Answer::Planned(blocks) => Reply {
+            number: 0,
             place: 0,
+            blocks,
+        },
+        Answer::Refused(refusal) => Reply {
+            number: refusal.number,
+            place: refusal.place,
             blocks: 0,
         },
-        RollAnswer::List(list) => in_numbers(list),
+    }
+}
+
+// A row of a plan: one block.
+pub struct Row {
+    pub first: u32,
+    pub last: u32,
+    pub start: u32,
+    pub end: u32,
+    pub operations: u32,
+}
+
+impl Row {
+    // How many numbers a row has.
+    pub const WIDTH: usize = 5;
+
+    // The row's numbers, in the order in which they stand in a buffer.
+    pub fn numbers(self) -> [u32; Row::WIDTH]
+        ensures { λ r. ⌜ r ≡ self .first ∷ self .last ∷ self .start ∷ self .end ∷ self .operations ∷ [] ⌝ }
+    {
+        [
+            self.first,
+            self.last,
+            self.start,
+            self.end,
+            self.operations,
+        ]
     }
 }
