@@ -1,6 +1,8 @@
 -- What each answer is in 01's numbers (01, "The refusals and their order"), and how many numbers a row has.
 -- Assumes nothing.
 use Prim.Native.Nat.{ℕ}
+use mathlib.Core.List.{List, [], _∷_}
+use Rattle.answers.specs.declared.Row.{Row}
 use Rattle.answers.specs.declared.Answer.{Answer}
 use Rattle.answers.specs.declared.Answer.the-variants.{Planned, Refused}
 
@@ -19,6 +21,10 @@ abbrev pub blocksOf : Answer → ℕ
 blocksOf (Planned blocks) = blocks
 blocksOf (Refused refusal) = 0
 
--- A row has five numbers: first report, last report, start offset, end offset, operations.
+-- A row has five numbers.
 abbrev pub width : ℕ
 width = 5
+
+-- They are, in the order in which they stand in a buffer: first report, last report, start offset, end offset, operations.
+abbrev pub numbersOf : Row → List ℕ
+numbersOf row = row .first ∷ row .last ∷ row .start ∷ row .end ∷ row .operations ∷ []

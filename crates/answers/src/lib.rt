@@ -1,8 +1,7 @@
 // What is answered for a list and for a roll: a plan, or a refusal with its number and place; and
 // how many numbers a row of a plan has. The definitions are specs/Numbers.antt.
 ghost use mathlib.Core.Path.{_≡_};
-ghost use mathlib.Core.List.{[], _∷_};
-ghost use Rattle.answers.specs.Numbers.{numberOf, placeOf, blocksOf};
+ghost use Rattle.answers.specs.Numbers.{numberOf, placeOf, blocksOf, numbersOf};
 
 // A refusal: its number, and the report it concerns, 0 where no report is.
 pub struct Refusal {
@@ -40,12 +39,6 @@ impl Refusal {
     pub const TOO_FAR: u32 = 13;
     // The program's input is too long.
     pub const TOO_LONG: u32 = 14;
-
-    pub fn new(number: u32, place: usize) -> Refusal
-        ensures { λ r. ⌜ r ≡ record { number = number; place = place } ⌝ }
-    {
-        Refusal { number, place }
-    }
 }
 
 // The answer: the block count, or the refusal.
@@ -95,7 +88,7 @@ impl Row {
 
     // The row's numbers, in the order in which they stand in a buffer.
     pub fn numbers(self) -> [u32; Row::WIDTH]
-        ensures { λ r. ⌜ r ≡ self .first ∷ self .last ∷ self .start ∷ self .end ∷ self .operations ∷ [] ⌝ }
+        ensures { λ r. ⌜ r ≡ numbersOf self ⌝ }
     {
         [
             self.first,

@@ -8,6 +8,8 @@ use native.Mathlib.Nat.{not-suc-le-zero}
 use native.Mathlib.Numerals.{add-one}
 use lib.ListN.{length, getD}
 use Rattle.fraction.specs.Fraction.{Fraction}
+use Rattle.answers.specs.Numbers.{width, numbersOf}
+use Rattle.answers.specs.declared.Row.{Row as Numbers}
 use Rattle.critical.specs.Reports.{Reports, listOf, Working}
 use Rattle.critical.specs.Rows.{Row, behind}
 use Rattle.critical.proofs.Room.{Roomy}
@@ -27,10 +29,10 @@ pub record Building (ℓ : Reports) (before : List ℕ) (count first ended : ℕ
   pub place : behind (rowAt buffer) count ≡ first
   pub time : begins ℓ (rowAt buffer) count ≡ max (ℓ .arrival first) ended
   pub as-long : length buffer ≡ length before
-  pub rest : (i : ℕ) → 5 * count ≤ i → getD buffer i 0 ≡ getD before i 0
+  pub rest : (i : ℕ) → width * count ≤ i → getD buffer i 0 ≡ getD before i 0
   pub chain : (fastest : Fraction) → Roomy ℓ fastest → Chain ℓ fastest count (rowAt buffer)
 
-module _ (xs ys ws : List ℕ) (fair : Fair xs ys ws) (before : List ℕ) (room : 5 * length xs ≤ length before) where
+module _ (xs ys ws : List ℕ) (fair : Fair xs ys ws) (before : List ℕ) (room : width * length xs ≤ length before) where
   abbrev ℓ : Reports
   ℓ = listOf xs ys ws
 
@@ -50,21 +52,22 @@ module _ (xs ys ws : List ℕ) (fair : Fair xs ys ws) (before : List ℕ) (room 
   }
 
   module _ (count first ended from : ℕ) (buffer : List ℕ) (b : Building ℓ before count first ended buffer) (e : End) (end-is : EndIs ℓ from first e) (from-is : from ≡ max (ℓ .arrival first) ended) where
-    pub put-room : first < length xs → 5 * count + 5 ≤ length buffer
+    pub put-room : first < length xs → width * count + width ≤ length buffer
     put-room h = omega (arith, b .few, b .as-long)
 
     pub last-on : e .last < length xs
     last-on = omega (arith, end-is .on, end-is .stretch .on-list)
 
-    abbrev next : List ℕ
-    next = putRow buffer count first (e .last) from (e .time) (e .operations)
+    -- the row that is written
+    abbrev r : Numbers
+    r = record { first = first; last = e .last; start = from; end = e .time; operations = e .operations }
 
-    r : Row
-    r = rowOf ℓ from first (e .last) (e .time)
+    abbrev next : List ℕ
+    next = putRow buffer count (numbersOf r)
 
     stands : first < length xs → rowAt next count ≡ rowOf ℓ from first (e .last) (e .time)
     stands h =
-        row-put buffer count first (e .last) from (e .time) (e .operations) (put-room h)
+        row-put buffer count r (put-room h)
         ∙ ap (λ (o : ℕ). record { first = first; last = e .last; start = from; end = e .time; operations = o }) (end-is .operations-are)
 
     link : (f : Fraction) → Roomy ℓ f → Link ℓ f (begins ℓ (rowAt buffer) count) (behind (rowAt buffer) count) (rowOf ℓ from first (e .last) (e .time))
@@ -86,9 +89,9 @@ module _ (xs ys ws : List ℕ) (fair : Fair xs ys ws) (before : List ℕ) (room 
       few = omega (arith, b .few, end-is .from);
       place = behind-suc (rowAt next) count ∙ ap (λ (x : Row). suc (x .last)) (stands h);
       time = ap (λ (x : Row). max (ℓ .arrival (suc (x .last))) (x .end)) (stands h);
-      as-long = length-put buffer count first (e .last) from (e .time) (e .operations) ∙ b .as-long;
-      rest = λ i k. put-behind buffer count first (e .last) from (e .time) (e .operations) i (omega arith) ∙ b .rest i (omega arith);
-      chain = λ f roomy. chain-more ℓ f count (rowAt buffer) (rowAt next) (row-other buffer count first (e .last) from (e .time) (e .operations)) (b .chain f roomy)
+      as-long = length-put buffer count r (put-room h) ∙ b .as-long;
+      rest = λ i k. put-behind buffer count r (put-room h) i (omega arith) ∙ b .rest i (omega arith);
+      chain = λ f roomy. chain-more ℓ f count (rowAt buffer) (rowAt next) (row-other buffer count r (put-room h)) (b .chain f roomy)
           (subst (Link ℓ f (begins ℓ (rowAt buffer) count) (behind (rowAt buffer) count)) (sym (stands h)) (link f roomy));
     })
 

@@ -3,17 +3,20 @@
 use Prim.Native.Nat.{ℕ, suc, _+_, _*_, _-_, _≤_, _<_}
 use mathlib.Core.Path.{_≡_}
 use mathlib.Core.List.{List}
-use lib.ListN.{length, getD, set}
-use Rattle.fraction.specs.Fraction.{Fraction, over}
+use lib.ListN.{length, getD}
+use lib.Seq.{paste}
+use Rattle.fraction.specs.Fraction.{Fraction}
 use Rattle.critical.specs.Reports.{Reports, Positive, Plannable, FirstWithout}
 use Rattle.critical.specs.Rows.{Critical}
 use Rattle.critical.proofs.Lines.{span}
 use Rattle.critical.proofs.Room.{Roomy}
 use Rattle.critical.proofs.Search.{Stretch, Scan, Found, Ready, floor, rowOf}
-use Rattle.planner.specs.Rules.{Rule}
-use Rattle.answers.specs.Numbers.{numberOf, placeOf, blocksOf}
+use Rattle.answers.specs.Numbers.{numberOf, placeOf, blocksOf, width}
+use Rattle.trials.specs.Rules.{Rule}
 use Rattle.planner.specs.Outcome.{rowAt, Outcome}
 use Rattle.answers.specs.declared.Answer.{Answer}
+use Rattle.planner.specs.Offsets.{paceOf}
+use Rattle.planner.specs.declared.Roll.{Roll}
 use Rattle.planner.specs.declared.search.Mark.{Mark}
 use Rattle.planner.specs.declared.search.Kept.{Kept}
 use Rattle.planner.specs.declared.search.End.{End}
@@ -30,19 +33,24 @@ pub record Fair (arrivals deadlines operations : List ℕ) : Type 0 where
   pub arrive : (i : ℕ) → i < length arrivals → getD arrivals i 0 ≤ 2147483647
   pub due : (i : ℕ) → i < length arrivals → getD deadlines i 0 ≤ 2147483647
 
+-- Lists that have passed rule 1.
+pub record Even (arrivals deadlines operations : List ℕ) : Type 0 where
+  pub deadlines-long : length deadlines ≡ length arrivals
+  pub operations-long : length operations ≡ length arrivals
+
 -- Lists and a buffer that have passed rules 1 to 3.
 pub record Sized (arrivals deadlines operations buffer : List ℕ) : Type 0 where
   pub deadlines-long : length deadlines ≡ length arrivals
   pub operations-long : length operations ≡ length arrivals
   pub few : length arrivals ≤ 1024
-  pub room : 5 * length arrivals ≤ length buffer
+  pub room : width * length arrivals ≤ length buffer
 
--- P and Q that have passed rule 4.
-pub record Paced (p q : ℕ) : Type 0 where
-  pub p-some : 1 ≤ p
-  pub p-most : p ≤ 65535
-  pub q-some : 1 ≤ q
-  pub q-most : q ≤ 65535
+-- Terms that have passed rule 4.
+pub record Paced (terms : Roll) : Type 0 where
+  pub p-some : 1 ≤ terms .p
+  pub p-most : terms .p ≤ 65535
+  pub q-some : 1 ≤ terms .q
+  pub q-most : terms .q ≤ 65535
 
 -- Where the pass at the fastest pace ends: at the first report without a plan, or behind the list.
 pub record PassEnds (ℓ : Reports) (fastest : Fraction) (r : ℕ) : Type 0 where
@@ -104,18 +112,17 @@ StepIs ℓ s p next (Ends e) = EndIs ℓ s p e
 StepIs ℓ s p next (Goes kept) = KeptIs ℓ s p kept × (kept .next ≡ next + 1)
 
 -- ---- the rows
--- The buffer with row k written: five numbers, from place 5k on.
-unfoldable pub putRow : List ℕ → ℕ → ℕ → ℕ → ℕ → ℕ → ℕ → List ℕ
-putRow buffer k first last start end operations =
-    set (set (set (set (set buffer (5 * k) first) (5 * k + 1) last) (5 * k + 2) start) (5 * k + 3) end) (5 * k + 4) operations
+-- The buffer with the numbers of row k written: nothing else of it changes.
+abbrev pub putRow : List ℕ → ℕ → List ℕ → List ℕ
+putRow buffer k numbers = paste buffer (width * k) numbers width
 
 -- What the nested search leaves: the rows of the plan wanted, at any fastest pace for which the list is roomy; the rest of the buffer as it was.
 pub record BlocksIn (ℓ : Reports) (before : List ℕ) (blocks : ℕ) (after : List ℕ) : Type 0 where
   pub as-long : length after ≡ length before
-  pub rest : (i : ℕ) → 5 * blocks ≤ i → getD after i 0 ≡ getD before i 0
+  pub rest : (i : ℕ) → width * blocks ≤ i → getD after i 0 ≡ getD before i 0
   pub rows : (fastest : Fraction) → Positive fastest → Roomy ℓ fastest → Critical ℓ fastest blocks (rowAt after)
 
--- An answer, by some of the rules, for a list of offsets and the pace p/q.
-abbrev pub Settles : (Reports → Fraction → List Rule) → Reports → ℕ → ℕ → List ℕ → Answer → List ℕ → Type 0
-Settles rules ℓ p q before answer after =
-    Outcome (rules ℓ (over p q)) ℓ (over p q) before (numberOf answer) (placeOf answer) (blocksOf answer) after
+-- An answer, by some of the rules, for a list of offsets.
+abbrev pub Settles : List Rule → Reports → Roll → List ℕ → Answer → List ℕ → Type 0
+Settles rules ℓ terms before answer after =
+    Outcome rules ℓ (paceOf terms) before (numberOf answer) (placeOf answer) (blocksOf answer) after

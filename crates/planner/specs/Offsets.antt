@@ -4,6 +4,7 @@ use Prim.Native.Nat.{ℕ, _+_, _-_, _%_, _^_}
 use mathlib.Core.List.{List, map}
 use Rattle.fraction.specs.Fraction.{Fraction, over}
 use Rattle.critical.specs.Reports.{Reports, listOf}
+use Rattle.planner.specs.declared.Roll.{Roll}
 
 -- A reading's offset is reading minus reference, taken modulo 2^32.
 abbrev pub offset : ℕ → ℕ → ℕ
@@ -13,20 +14,22 @@ offset reference reading = (reading + (2 ^ 32 - reference)) % 2 ^ 32
 abbrev pub offsetsOf : ℕ → List ℕ → List ℕ → List ℕ → Reports
 offsetsOf reference arrivals deadlines operations = listOf (map (offset reference) arrivals) (map (offset reference) deadlines) operations
 
--- The three lists, the reference, P and Q, and the row buffer as it is lent.
+-- The fastest pace, P/Q.
+abbrev pub paceOf : Roll → Fraction
+paceOf terms = over (terms .p) (terms .q)
+
+-- The three lists, the terms that they come with (reference, P and Q), and the row buffer as it is lent.
 pub record Input : Type 0 where
   pub arrivals : List ℕ
   pub deadlines : List ℕ
   pub operations : List ℕ
-  pub reference : ℕ
-  pub P : ℕ
-  pub Q : ℕ
+  pub terms : Roll
   pub buffer : List ℕ
 
 -- Its reports.
 abbrev pub reportsOf : Input → Reports
-reportsOf x = offsetsOf (x .reference) (x .arrivals) (x .deadlines) (x .operations)
+reportsOf x = offsetsOf (x .terms .reference) (x .arrivals) (x .deadlines) (x .operations)
 
--- The fastest pace.
+-- Its fastest pace.
 abbrev pub fastestOf : Input → Fraction
-fastestOf x = over (x .P) (x .Q)
+fastestOf x = paceOf (x .terms)

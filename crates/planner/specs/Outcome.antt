@@ -8,23 +8,29 @@ use Rattle.fraction.specs.Fraction.{Fraction}
 use Rattle.critical.specs.Reports.{Reports}
 use Rattle.critical.specs.Rows.{Row, Critical}
 use Rattle.planner.specs.Offsets.{Input, reportsOf, fastestOf}
-use Rattle.planner.specs.Rules.{Rule, wholeRules, reportRules, Refused, Accepted}
+use Rattle.answers.specs.Numbers.{width}
+use Rattle.trials.specs.Rules.{Rule, Refused, Accepted}
+use Rattle.planner.specs.Rules.{planRules}
 
--- Row k of a buffer: five numbers, from place 5k on.
+-- Number j of row k of a buffer.
+abbrev pub numberAt : List ℕ → ℕ → ℕ → ℕ
+numberAt buffer k j = getD buffer (width * k + j) 0
+
+-- Row k of a buffer.
 abbrev pub rowAt : List ℕ → ℕ → Row
 rowAt buffer k = record {
-  first = getD buffer (5 * k) 0;
-  last = getD buffer (5 * k + 1) 0;
-  start = getD buffer (5 * k + 2) 0;
-  end = getD buffer (5 * k + 3) 0;
-  operations = getD buffer (5 * k + 4) 0;
+  first = numberAt buffer k 0;
+  last = numberAt buffer k 1;
+  start = numberAt buffer k 2;
+  end = numberAt buffer k 3;
+  operations = numberAt buffer k 4;
 }
 
 -- Rows stand at the front of the buffer in order; the numbers behind them stay as they were.
 pub record Written (ℓ : Reports) (fastest : Fraction) (before : List ℕ) (blocks : ℕ) (after : List ℕ) : Type 0 where
   pub rows : Critical ℓ fastest blocks (rowAt after)
   pub as-long : length after ≡ length before
-  pub behind : (i : ℕ) → 5 * blocks ≤ i → getD after i 0 ≡ getD before i 0
+  pub behind : (i : ℕ) → width * blocks ≤ i → getD after i 0 ≡ getD before i 0
 
 -- What comes back, and what the buffer then holds: number 0 and place 0 with the rows written; or a refusal, with block count 0 and the buffer untouched.
 unfoldable pub Outcome : List Rule → Reports → Fraction → List ℕ → ℕ → ℕ → ℕ → List ℕ → Type 0
@@ -34,4 +40,4 @@ Outcome rules ℓ fastest before (suc number) place blocks after = Refused rules
 -- The outcome of an input, by all the rules.
 abbrev pub PlanOutcome : Input → ℕ → ℕ → ℕ → List ℕ → Type 0
 PlanOutcome x number place blocks after =
-    Outcome (wholeRules x ++ reportRules (reportsOf x) (fastestOf x)) (reportsOf x) (fastestOf x) (x .buffer) number place blocks after
+    Outcome (planRules x) (reportsOf x) (fastestOf x) (x .buffer) number place blocks after

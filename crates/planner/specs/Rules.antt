@@ -1,83 +1,80 @@
--- The refusals and their order (01's table).
+-- The refusals and their order (01's table). What a rule is, and that the first that is given refuses, is trials/specs/Rules.antt.
 -- Assumes nothing.
-use Prim.Native.Nat.{ℕ, zero, suc, _*_, _≤_, _<_}
+use Prim.Native.Nat.{ℕ, _*_, _<_}
 use mathlib.Core.Path.{_≡_}
 use mathlib.Core.List.{List, [], _∷_, _++_}
 use mathlib.Core.Logic.{_⊎_}
 use lib.ListN.{length}
-use Rattle.fraction.specs.Fraction.{Fraction, over}
+use Rattle.answers.specs.Numbers.{width}
+use Rattle.trials.specs.Rules.{Rule, rule, Whole, Least, Outside, Falls}
+use Rattle.fraction.specs.Fraction.{Fraction}
 use Rattle.critical.specs.Reports.{Reports, FirstWithout}
-use Rattle.planner.specs.Offsets.{Input, reportsOf}
+use Rattle.planner.specs.Offsets.{Input, reportsOf, fastestOf}
+use Rattle.planner.specs.declared.Roll.{Roll}
 
--- A rule: its number, and the place with which it is given (it is given exactly when there is one).
-pub record Rule : Type 1 where
-  pub number : ℕ
-  pub given : ℕ → Type 0
+-- ---- rules of the whole list: of how long the lists and the row buffer are, and of the terms
+-- 1: the three lists differ in length.
+abbrev pub lengthsRule : ℕ → ℕ → ℕ → Rule
+lengthsRule arrivals deadlines operations = rule 1 (Whole ((arrivals ≡ deadlines → ⊥) ⊎ (arrivals ≡ operations → ⊥)))
 
--- Given of the whole list: the place is 0.
-abbrev pub Whole : Type 0 → ℕ → Type 0
-Whole P place = P × (place ≡ 0)
+-- 2: more than 1,024 reports.
+abbrev pub manyRule : ℕ → Rule
+manyRule reports = rule 2 (Whole (1024 < reports))
 
--- Given of a report: the place is the least report at fault.
-pub record Least (n : ℕ) (Fault : ℕ → Type 0) (place : ℕ) : Type 0 where
-  pub on-list : place < n
-  pub at-fault : Fault place
-  pub least : (i : ℕ) → i < place → Fault i → ⊥
+-- 3: the row buffer is shorter than a row's width times the reports.
+abbrev pub shortRule : ℕ → ℕ → Rule
+shortRule reports room = rule 3 (Whole (room < width * reports))
 
--- A number outside a range.
-abbrev pub Outside : ℕ → ℕ → ℕ → Type 0
-Outside low high x = (x < low) ⊎ (high < x)
+-- 4: P or Q outside 1 to 65,535.
+abbrev pub paceRule : Roll → Rule
+paceRule terms = rule 4 (Whole (Outside 1 65535 (terms .p) ⊎ Outside 1 65535 (terms .q)))
 
--- Report i's arrival is below that of the report before.
-unfoldable pub Falls : (ℕ → ℕ) → ℕ → Type 0
-Falls a zero = ⊥
-Falls a (suc i) = a (suc i) < a i
-
--- What a search for the least fault gives: the place, or n where no report is at fault.
-pub record FirstOr (n : ℕ) (Fault : ℕ → Type 0) (r : ℕ) : Type 0 where
-  pub within : r ≤ n
-  pub at-fault : r < n → Fault r
-  pub none-before : (i : ℕ) → i < r → Fault i → ⊥
-
-abbrev rule : ℕ → (ℕ → Type 0) → Rule
-rule number given = record { number = number; given = given }
-
--- The rules of the whole list, in their order: 1, lists of different length; 2, too many reports; 3, too short a buffer; 4, P or Q outside 1 to 65,535.
-abbrev pub wholeRules : Input → List Rule
-wholeRules x =
-    rule 1 (Whole ((length (x .arrivals) ≡ length (x .deadlines) → ⊥) ⊎ (length (x .arrivals) ≡ length (x .operations) → ⊥)))
-    ∷ rule 2 (Whole (1024 < length (x .arrivals)))
-    ∷ rule 3 (Whole (length (x .buffer) < 5 * length (x .arrivals)))
-    ∷ rule 4 (Whole (Outside 1 65535 (x .P) ⊎ Outside 1 65535 (x .Q)))
+-- In their order.
+abbrev pub countRules : ℕ → ℕ → ℕ → Roll → ℕ → List Rule
+countRules arrivals deadlines operations terms room =
+    lengthsRule arrivals deadlines operations
+    ∷ manyRule arrivals
+    ∷ shortRule arrivals room
+    ∷ paceRule terms
     ∷ []
 
--- The rules of its reports: 5, operations outside 1 to 65,535; 6 and 7, arrival and deadline offset above 2,147,483,647; 8, arrivals that fall.
+-- ---- rules of the reports
+-- 5: operations 0 or above 65,535.
+abbrev pub operationsRule : Reports → Rule
+operationsRule ℓ = rule 5 (Least (ℓ .count) (λ i. Outside 1 65535 (ℓ .operations i)))
+
+-- 6: arrival offset above 2,147,483,647.
+abbrev pub arrivalRule : Reports → Rule
+arrivalRule ℓ = rule 6 (Least (ℓ .count) (λ i. 2147483647 < ℓ .arrival i))
+
+-- 7: deadline offset above 2,147,483,647.
+abbrev pub deadlineRule : Reports → Rule
+deadlineRule ℓ = rule 7 (Least (ℓ .count) (λ i. 2147483647 < ℓ .deadline i))
+
+-- 8: arrival offset below that of the report before.
+abbrev pub orderRule : Reports → Rule
+orderRule ℓ = rule 8 (Least (ℓ .count) (Falls (ℓ .arrival)))
+
+-- In their order.
 abbrev pub formRules : Reports → List Rule
 formRules ℓ =
-    rule 5 (Least (ℓ .count) (λ i. Outside 1 65535 (ℓ .operations i)))
-    ∷ rule 6 (Least (ℓ .count) (λ i. 2147483647 < ℓ .arrival i))
-    ∷ rule 7 (Least (ℓ .count) (λ i. 2147483647 < ℓ .deadline i))
-    ∷ rule 8 (Least (ℓ .count) (Falls (ℓ .arrival)))
+    operationsRule ℓ
+    ∷ arrivalRule ℓ
+    ∷ deadlineRule ℓ
+    ∷ orderRule ℓ
     ∷ []
 
--- The last rule: 9, no allowed plan.
-abbrev pub planRule : Reports → Fraction → List Rule
-planRule ℓ fastest = rule 9 (FirstWithout ℓ fastest) ∷ []
+-- 9: no allowed plan.
+abbrev pub planRule : Reports → Fraction → Rule
+planRule ℓ fastest = rule 9 (FirstWithout ℓ fastest)
 
--- The rules that speak of reports.
+-- The rules that speak of reports: those of form, and then the last.
 abbrev pub reportRules : Reports → Fraction → List Rule
-reportRules ℓ fastest = formRules ℓ ++ planRule ℓ fastest
+reportRules ℓ fastest = formRules ℓ ++ (planRule ℓ fastest ∷ [])
 
--- A rule is not given.
-abbrev pub Silent : Rule → Type 0
-Silent r = (place : ℕ) → r .given place → ⊥
+-- ---- all of them, of an input
+abbrev pub wholeRules : Input → List Rule
+wholeRules x = countRules (length (x .arrivals)) (length (x .deadlines)) (length (x .operations)) (x .terms) (length (x .buffer))
 
--- The rules are tried in order, and the first that is given refuses, with its number and place.
-unfoldable pub Refused : List Rule → ℕ → ℕ → Type 0
-Refused [] number place = ⊥
-Refused (r ∷ rs) number place = ((number ≡ r .number) × r .given place) ⊎ (Silent r × Refused rs number place)
-
--- None is given.
-unfoldable pub Accepted : List Rule → Type 0
-Accepted [] = Unit {0}
-Accepted (r ∷ rs) = Silent r × Accepted rs
+abbrev pub planRules : Input → List Rule
+planRules x = wholeRules x ++ reportRules (reportsOf x) (fastestOf x)

@@ -2,16 +2,16 @@
 // Its one entry point is plan. The promise is in specs/: Offsets (what it is handed), Rules (the
 // refusals and their order), Outcome (what comes back, and what the row buffer then holds).
 use answers::Answer;
+use trials::Verdict;
 
 mod blocks;
 mod pass;
+mod readings;
 mod rules;
 mod search;
 mod settle;
 
 ghost use mathlib.Core.Path.{_≡_};
-ghost use mathlib.Core.Bool.{true, false};
-ghost use Rattle.planner.specs.Rules.{Outside};
 ghost use Rattle.answers.specs.Numbers.{numberOf, placeOf, blocksOf};
 ghost use Rattle.planner.specs.Outcome.{PlanOutcome};
 
@@ -39,7 +39,8 @@ impl Report {
     }
 }
 
-// What a roll says beside its reports: the reference reading, and the fastest pace P/Q.
+// The terms that a list comes with, what a roll says beside its reports: the reference reading, and
+// the fastest pace P/Q.
 pub struct Roll {
     pub reference: u32,
     pub p: u32,
@@ -59,57 +60,27 @@ impl Roll {
     }
 }
 
-// Whether a number is one that neither P nor Q may be.
-fn bad_pace(x: u32) -> bool
-    ensures yes { λ r. ⌜ (r ≡ true → Outside 1 65535 x) ⌝ }
-    ensures no { λ r. ⌜ (r ≡ false → Outside 1 65535 x → ⊥) ⌝ }
-{
-    if x < 1 {
-        return true;
-    }
-    if Roll::PACE < x {
-        return true;
-    }
-    false
-}
-
-// Plans a list: three lists of readings, the reference, P and Q, and a buffer for rows. What comes
-// back, and what the buffer then holds, is PlanOutcome, for every input.
+// Plans a list: three lists of readings, the terms that they come with (reference, P and Q), and a
+// buffer for rows. What comes back, and what the buffer then holds, is PlanOutcome, for every input.
 pub fn plan(
     arrivals: &[u32],
     deadlines: &[u32],
     operations: &[u32],
-    reference: u32,
-    p: u32,
-    q: u32,
+    terms: Roll,
     rows: &mut [u32],
 ) -> Answer
-    ensures { λ r. ⌜ PlanOutcome (record { arrivals = now (arrivals .entry); deadlines = now (deadlines .entry); operations = now (operations .entry); reference = reference; P = p; Q = q; buffer = now (rows .entry) }) (numberOf r) (placeOf r) (blocksOf r) (now (rows .exit)) ⌝ }
+    ensures { λ r. ⌜ PlanOutcome (record { arrivals = now (arrivals .entry); deadlines = now (deadlines .entry); operations = now (operations .entry); terms = terms; buffer = now (rows .entry) }) (numberOf r) (placeOf r) (blocksOf r) (now (rows .exit)) ⌝ }
 {
-    let n = arrivals.len();
-    if deadlines.len() != n {
-        return Answer::Lengths;
+    let tried = rules::counts(
+        Verdict::Silent,
+        arrivals.len(),
+        deadlines.len(),
+        operations.len(),
+        terms,
+        rows.len(),
+    );
+    if let Verdict::Given(refusal) = tried {
+        return Answer::Refused(refusal);
     }
-    if operations.len() != n {
-        return Answer::Lengths;
-    }
-    if Roll::REPORTS < n {
-        return Answer::TooMany;
-    }
-    if rows.len() < 5 * n {
-        return Answer::ShortBuffer;
-    }
-    if bad_pace(p) {
-        return Answer::BadPace;
-    }
-    if bad_pace(q) {
-        return Answer::BadPace;
-    }
-    settle::settle_readings(
-        arrivals,
-        deadlines,
-        operations,
-        Roll::new(reference, p, q),
-        rows,
-    )
+    settle::settle_readings(arrivals, deadlines, operations, terms, rows)
 }

@@ -4,17 +4,17 @@ use crate::Report;
 use crate::Roll;
 ghost use mathlib.Core.Path.{_≡_};
 ghost use Prim.Native.Nat.{_+_, _*_, _^_, _≤_, _<_, max};
-ghost use Rattle.fraction.specs.Fraction.{over};
 ghost use Rattle.critical.specs.Reports.{listOf};
+ghost use Rattle.planner.specs.Offsets.{paceOf};
 ghost use Rattle.planner.specs.Inside.{Fair, Paced, PassEnds};
 
 // Q times the finish of a report, from Q times the finish of the one before.
-fn finish(report: Report, roll: Roll, before: u64) -> u64
-    requires { ⌜ (report .operations ≤ 65535) × (roll .p ≤ 65535) × (roll .q ≤ 65535) × (before < 2 ^ 63) ⌝ }
-    ensures { λ r. ⌜ r ≡ max (roll .q * report .arrival) before + report .operations * roll .p ⌝ }
+fn finish(report: Report, terms: Roll, before: u64) -> u64
+    requires { ⌜ (report .operations ≤ 65535) × (terms .p ≤ 65535) × (terms .q ≤ 65535) × (before < 2 ^ 63) ⌝ }
+    ensures { λ r. ⌜ r ≡ max (terms .q * report .arrival) before + report .operations * terms .p ⌝ }
 {
-    let arrived = (roll.q as u64) * (report.arrival as u64);
-    let work = (report.operations as u64) * (roll.p as u64);
+    let arrived = (terms.q as u64) * (report.arrival as u64);
+    let work = (report.operations as u64) * (terms.p as u64);
     if arrived < before {
         before + work
     } else {
@@ -23,24 +23,24 @@ fn finish(report: Report, roll: Roll, before: u64) -> u64
 }
 
 // Q times a report's deadline.
-fn due(report: Report, roll: Roll) -> u64
-    ensures { λ r. ⌜ r ≡ roll .q * report .deadline ⌝ }
+fn due(report: Report, terms: Roll) -> u64
+    ensures { λ r. ⌜ r ≡ terms .q * report .deadline ⌝ }
 {
-    (roll.q as u64) * (report.deadline as u64)
+    (terms.q as u64) * (report.deadline as u64)
 }
 
 // The first report without a plan, or the list's length where there is a plan for all.
-pub fn first_without(arrivals: &[u32], deadlines: &[u32], operations: &[u32], roll: Roll) -> usize
+pub fn first_without(arrivals: &[u32], deadlines: &[u32], operations: &[u32], terms: Roll) -> usize
     requires fair { ⌜ Fair (now arrivals) (now deadlines) (now operations) ⌝ }
-    requires pace { ⌜ Paced (roll .p) (roll .q) ⌝ }
-    ensures { λ r. ⌜ PassEnds (listOf (now (arrivals .entry)) (now (deadlines .entry)) (now (operations .entry))) (over (roll .p) (roll .q)) r ⌝ }
+    requires pace { ⌜ Paced terms ⌝ }
+    ensures { λ r. ⌜ PassEnds (listOf (now (arrivals .entry)) (now (deadlines .entry)) (now (operations .entry))) (paceOf terms) r ⌝ }
 {
     let mut i = 0;
     let mut done: u64 = 0;
     while i < arrivals.len() {
         let report = Report::new(arrivals[i], deadlines[i], operations[i]);
-        done = finish(report, roll, done);
-        if due(report, roll) < done {
+        done = finish(report, terms, done);
+        if due(report, terms) < done {
             return i;
         }
         i += 1;

@@ -1,59 +1,81 @@
-// The rules that go over a whole list, and the offsets that they are about. A search for a fault
-// gives the least report at fault, or the list's length where there is none.
+// Rules 1 to 8, tried in their order (specs/Rules.antt): each group is handed the verdict of the rules
+// before it and gives that of all of them. Two lines a rule: whether it is given, and or_if.
+use crate::Report;
+use crate::Roll;
+use answers::Refusal;
+use answers::Row;
+use trials::Verdict;
+use trials::or_if;
 ghost use mathlib.Core.Path.{_≡_};
-ghost use mathlib.Core.List.{map};
-ghost use Prim.Native.Nat.{_≤_};
-ghost use lib.ListN.{length, getD, take};
-ghost use Rattle.planner.specs.Offsets.{offset};
-ghost use Rattle.planner.specs.Rules.{FirstOr, Outside, Falls};
+ghost use mathlib.Core.Logic.{_⊎_};
+ghost use Prim.Native.Nat.{_*_, _<_};
+ghost use lib.ListN.{length};
+ghost use Rattle.answers.specs.Numbers.{width};
+ghost use Rattle.trials.specs.Rules.{Outside};
+ghost use Rattle.trials.specs.Tries.{Tells, After};
+ghost use Rattle.critical.specs.Reports.{listOf};
+ghost use Rattle.planner.specs.Rules.{countRules, formRules};
+ghost use Rattle.planner.specs.Inside.{Even};
 
-// The least i at which xs is outside least to most.
-pub fn first_outside(xs: &[u32], least: u32, most: u32) -> usize
-    ensures { λ r. ⌜ FirstOr (length (now (xs .entry))) (λ i. Outside least most (getD (now (xs .entry)) i 0)) r ⌝ }
+// Whether three lists differ in length.
+fn uneven(arrivals: usize, deadlines: usize, operations: usize) -> bool
+    ensures { λ r. ⌜ Tells ((arrivals ≡ deadlines → ⊥) ⊎ (arrivals ≡ operations → ⊥)) r ⌝ }
 {
-    let mut i = 0;
-    while i < xs.len() {
-        let x = xs[i];
-        if x < least {
-            return i;
-        }
-        if most < x {
-            return i;
-        }
-        i += 1;
+    if arrivals != deadlines {
+        return true;
     }
-    i
+    arrivals != operations
 }
 
-// The least i at which xs is below the number before.
-pub fn first_fall(xs: &[u32]) -> usize
-    ensures { λ r. ⌜ FirstOr (length (now (xs .entry))) (Falls (λ i. getD (now (xs .entry)) i 0)) r ⌝ }
+// Whether a buffer is too short for the rows of so many reports.
+fn short(reports: usize, room: usize) -> bool
+    ensures { λ r. ⌜ Tells (room < width * reports) r ⌝ }
 {
-    let mut i = 1;
-    while i < xs.len() {
-        if xs[i] < xs[i - 1] {
-            return i;
-        }
-        i += 1;
-    }
-    xs.len()
+    room / Row::WIDTH < reports
 }
 
-// A reading's offset: the clock runs past its top and goes on from 0.
-pub fn offset(reading: u32, reference: u32) -> u32
-    ensures { λ r. ⌜ r ≡ offset reference reading ⌝ }
+// Whether P or Q is a number that it may not be.
+fn bad_pace(terms: Roll) -> bool
+    ensures { λ r. ⌜ Tells (Outside 1 65535 (terms .p) ⊎ Outside 1 65535 (terms .q)) r ⌝ }
 {
-    std::num::wrapping_sub_u32(reading, reference)
+    if trials::outside(terms.p, 1, Roll::PACE) {
+        return true;
+    }
+    trials::outside(terms.q, 1, Roll::PACE)
 }
 
-// The offsets of all readings, at the front of out.
-pub fn offsets(readings: &[u32], reference: u32, out: &mut [u32])
-    requires { ⌜ length (now readings) ≤ length (now out) ⌝ }
-    ensures { λ r. ⌜ take (length (now (readings .entry))) (now (out .exit)) ≡ map (offset reference) (now (readings .entry)) ⌝ }
+// Rules 1 to 4, of how long the lists and the row buffer are, and of the terms.
+pub fn counts(
+    so_far: Verdict,
+    arrivals: usize,
+    deadlines: usize,
+    operations: usize,
+    terms: Roll,
+    room: usize,
+) -> Verdict
+    ensures { λ r. ⌜ After «so_far» (countRules arrivals deadlines operations terms room) r ⌝ }
 {
-    let mut i = 0;
-    while i < readings.len() {
-        out[i] = offset(readings[i], reference);
-        i += 1;
-    }
+    let given = uneven(arrivals, deadlines, operations);
+    let v = or_if(so_far, given, Refusal::LENGTHS, 0);
+    let v = or_if(v, Roll::REPORTS < arrivals, Refusal::TOO_MANY, 0);
+    let given = short(arrivals, room);
+    let v = or_if(v, given, Refusal::SHORT_BUFFER, 0);
+    let given = bad_pace(terms);
+    or_if(v, given, Refusal::BAD_PACE, 0)
+}
+
+// Rules 5 to 8, of offsets and operations, each over the whole list before the next.
+pub fn forms(so_far: Verdict, arrivals: &[u32], deadlines: &[u32], operations: &[u32]) -> Verdict
+    requires { ⌜ Even (now arrivals) (now deadlines) (now operations) ⌝ }
+    ensures { λ r. ⌜ After «so_far» (formRules (listOf (now (arrivals .entry)) (now (deadlines .entry)) (now (operations .entry)))) r ⌝ }
+{
+    let n = arrivals.len();
+    let at = trials::first_outside(operations, 1, Report::OPERATIONS);
+    let v = or_if(so_far, at < n, Refusal::BAD_OPERATIONS, at);
+    let at = trials::first_above(arrivals, Report::OFFSET);
+    let v = or_if(v, at < n, Refusal::BAD_ARRIVAL, at);
+    let at = trials::first_above(deadlines, Report::OFFSET);
+    let v = or_if(v, at < n, Refusal::BAD_DEADLINE, at);
+    let at = trials::first_fall(arrivals);
+    or_if(v, at < n, Refusal::ARRIVAL_FALLS, at)
 }

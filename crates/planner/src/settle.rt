@@ -1,14 +1,18 @@
-// The rules of the reports, on offsets, and the plan: what is left once the whole list is in order.
-use crate::Report;
+// What is left once the whole list is in order: the rules of its reports, on offsets, and the plan.
 use crate::Roll;
 use crate::blocks;
 use crate::pass;
+use crate::readings;
 use crate::rules;
 use answers::Answer;
+use answers::Refusal;
+use trials::Verdict;
+ghost use mathlib.Core.List.{[], _∷_};
 ghost use Prim.Native.Nat.{_*_, _≤_};
 ghost use lib.ListN.{length};
+ghost use Rattle.answers.specs.Numbers.{width};
 ghost use Rattle.critical.specs.Reports.{listOf};
-ghost use Rattle.planner.specs.Offsets.{offsetsOf};
+ghost use Rattle.planner.specs.Offsets.{offsetsOf, paceOf};
 ghost use Rattle.planner.specs.Rules.{planRule, reportRules};
 ghost use Rattle.planner.specs.Inside.{Fair, Paced, Settles, Sized};
 
@@ -17,52 +21,42 @@ fn plan_fair(
     arrivals: &[u32],
     deadlines: &[u32],
     operations: &[u32],
-    roll: Roll,
+    terms: Roll,
     rows: &mut [u32],
 ) -> Answer
     requires fair { ⌜ Fair (now arrivals) (now deadlines) (now operations) ⌝ }
-    requires room { ⌜ 5 * length (now arrivals) ≤ length (now rows) ⌝ }
-    requires pace { ⌜ Paced (roll .p) (roll .q) ⌝ }
-    ensures { λ r. ⌜ Settles planRule (listOf (now (arrivals .entry)) (now (deadlines .entry)) (now (operations .entry))) (roll .p) (roll .q) (now (rows .entry)) r (now (rows .exit)) ⌝ }
+    requires room { ⌜ width * length (now arrivals) ≤ length (now rows) ⌝ }
+    requires pace { ⌜ Paced terms ⌝ }
+    ensures { λ r. ⌜ Settles (planRule (listOf (now (arrivals .entry)) (now (deadlines .entry)) (now (operations .entry))) (paceOf terms) ∷ []) (listOf (now (arrivals .entry)) (now (deadlines .entry)) (now (operations .entry))) terms (now (rows .entry)) r (now (rows .exit)) ⌝ }
 {
-    let without = pass::first_without(arrivals, deadlines, operations, roll);
+    let without = pass::first_without(arrivals, deadlines, operations, terms);
     if without < arrivals.len() {
-        return Answer::NoPlan(without);
+        return Answer::Refused(Refusal {
+            number: Refusal::NO_PLAN,
+            place: without,
+        });
     }
     let count = blocks::blocks(arrivals, deadlines, operations, rows);
     Answer::Planned(count)
 }
 
-// Rules 5 to 9, each over the whole list before the next.
+// Rules 5 to 9, on offsets, and the rows.
 pub fn settle(
     arrivals: &[u32],
     deadlines: &[u32],
     operations: &[u32],
-    roll: Roll,
+    terms: Roll,
     rows: &mut [u32],
 ) -> Answer
     requires sized { ⌜ Sized (now arrivals) (now deadlines) (now operations) (now rows) ⌝ }
-    requires pace { ⌜ Paced (roll .p) (roll .q) ⌝ }
-    ensures { λ r. ⌜ Settles reportRules (listOf (now (arrivals .entry)) (now (deadlines .entry)) (now (operations .entry))) (roll .p) (roll .q) (now (rows .entry)) r (now (rows .exit)) ⌝ }
+    requires pace { ⌜ Paced terms ⌝ }
+    ensures { λ r. ⌜ Settles (reportRules (listOf (now (arrivals .entry)) (now (deadlines .entry)) (now (operations .entry))) (paceOf terms)) (listOf (now (arrivals .entry)) (now (deadlines .entry)) (now (operations .entry))) terms (now (rows .entry)) r (now (rows .exit)) ⌝ }
 {
-    let n = arrivals.len();
-    let busy = rules::first_outside(operations, 1, Report::OPERATIONS);
-    if busy < n {
-        return Answer::BadOperations(busy);
+    let tried = rules::forms(Verdict::Silent, arrivals, deadlines, operations);
+    if let Verdict::Given(refusal) = tried {
+        return Answer::Refused(refusal);
     }
-    let early = rules::first_outside(arrivals, 0, Report::OFFSET);
-    if early < n {
-        return Answer::BadArrival(early);
-    }
-    let late = rules::first_outside(deadlines, 0, Report::OFFSET);
-    if late < n {
-        return Answer::BadDeadline(late);
-    }
-    let falls = rules::first_fall(arrivals);
-    if falls < n {
-        return Answer::ArrivalFalls(falls);
-    }
-    plan_fair(arrivals, deadlines, operations, roll, rows)
+    plan_fair(arrivals, deadlines, operations, terms, rows)
 }
 
 // Rules 5 to 9 of a list of readings: their offsets are taken once, and settled.
@@ -70,18 +64,18 @@ pub fn settle_readings(
     arrivals: &[u32],
     deadlines: &[u32],
     operations: &[u32],
-    roll: Roll,
+    terms: Roll,
     rows: &mut [u32],
 ) -> Answer
     requires sized { ⌜ Sized (now arrivals) (now deadlines) (now operations) (now rows) ⌝ }
-    requires pace { ⌜ Paced (roll .p) (roll .q) ⌝ }
-    ensures { λ r. ⌜ Settles reportRules (offsetsOf (roll .reference) (now (arrivals .entry)) (now (deadlines .entry)) (now (operations .entry))) (roll .p) (roll .q) (now (rows .entry)) r (now (rows .exit)) ⌝ }
+    requires pace { ⌜ Paced terms ⌝ }
+    ensures { λ r. ⌜ Settles (reportRules (offsetsOf (terms .reference) (now (arrivals .entry)) (now (deadlines .entry)) (now (operations .entry))) (paceOf terms)) (offsetsOf (terms .reference) (now (arrivals .entry)) (now (deadlines .entry)) (now (operations .entry))) terms (now (rows .entry)) r (now (rows .exit)) ⌝ }
 {
     let n = arrivals.len();
-    let reference = roll.reference;
+    let reference = terms.reference;
     let mut from = [0u32; Roll::REPORTS];
     let mut due = [0u32; Roll::REPORTS];
-    rules::offsets(arrivals, reference, &mut from);
-    rules::offsets(deadlines, reference, &mut due);
-    settle(&from[..n], &due[..n], operations, roll, rows)
+    readings::offsets(arrivals, reference, &mut from);
+    readings::offsets(deadlines, reference, &mut due);
+    settle(&from[..n], &due[..n], operations, terms, rows)
 }

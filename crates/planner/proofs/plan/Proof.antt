@@ -1,104 +1,52 @@
--- `planner::plan` meets its contract: rules 1 to 4, one after the other, and then the rules of the reports.
+-- `planner::plan` meets its contract: rules 1 to 4, and then the rules of the reports.
 -- Assumes nothing.
 use borrow.Author.Needs.{needs}
-use mathlib.Core.Path.{sym, subst}
-use mathlib.Core.Logic.{inl, inr}
-use Rattle.fraction.specs.Fraction.{over}
-use Rattle.planner.specs.Offsets.{Input, offsetsOf}
-use Rattle.planner.specs.Rules.{reportRules}
-use Rattle.answers.specs.Numbers.{numberOf, placeOf, blocksOf}
-use Rattle.planner.specs.Outcome.{Outcome}
-use Rattle.planner.specs.Inside.{Paced}
-use Rattle.planner.proofs.Outcomes.{refuses-one, refuses-two, refuses-three, refuses-four, goes-to-reports, sized, paced}
+use Rattle.trials.proofs.Passing.{Passed}
+use Rattle.trials.proofs.Trying.{passed, refuses}
+use Rattle.planner.specs.Offsets.{Input, reportsOf, fastestOf}
+use Rattle.planner.specs.Rules.{wholeRules, reportRules}
+use Rattle.planner.proofs.Outcomes.{hands-up, goes-on}
+use Rattle.planner.proofs.Leaving.{sized-lists, good-terms}
 use Rattle.planner.proofs.plan.Statement.{statement}
 use Rattle.planner.proofs.plan.Tie as tie
 
+-- ---- where the rules of the whole list have been tried: what was handed in, and the rules that follow
+abbrev input : tie.After-counts → Input
+input c =
+    let a = c .before .before .before .before .before .args in
+    record { arrivals = a .arrivals .now; deadlines = a .deadlines .now; operations = a .operations .now; terms = a .terms; buffer = a .rows .now }
+
 returns : tie.Need-returns
 returns c =
-    let s = c .before .before .before .before .before in
-    let a = s .args in
-    let x : Input = record { arrivals = a .arrivals .now; deadlines = a .deadlines .now; operations = a .operations .now; reference = a .reference; P = a .p; Q = a .q; buffer = a .rows .now } in
-    refuses-one x (inl (λ e. c .if1 .taken (sym e)))
+    let t = c .before .before .before in
+    let x = input t in
+    hands-up (reportsOf x) (fastestOf x) (x .buffer) (wholeRules x) (reportRules (reportsOf x) (fastestOf x)) (refuses (t .counts .ensures) (c .before .tried .given .1))
 
-returns-2 : tie.Need-returns-2
-returns-2 c =
-    let s = c .before .before .before .before .before .before in
-    let a = s .args in
-    let x : Input = record { arrivals = a .arrivals .now; deadlines = a .deadlines .now; operations = a .operations .now; reference = a .reference; P = a .p; Q = a .q; buffer = a .rows .now } in
-    refuses-one x (inr (λ e. c .if2 .taken (sym e)))
-
-returns-3 : tie.Need-returns-3
-returns-3 c =
-    let s = c .before .before .before .before .before .before .before in
-    let a = s .args in
-    let x : Input = record { arrivals = a .arrivals .now; deadlines = a .deadlines .now; operations = a .operations .now; reference = a .reference; P = a .p; Q = a .q; buffer = a .rows .now } in
-    refuses-two x (sym (c .before .before .if1 .left)) (sym (c .before .if2 .left)) (c .if3 .taken)
-
-mul-if4 : tie.Need-mul-if4
-mul-if4 c = search needs
-
-returns-4 : tie.Need-returns-4
-returns-4 c =
-    let s = c .before .before .before .before .before .before .before .before in
-    let a = s .args in
-    let x : Input = record { arrivals = a .arrivals .now; deadlines = a .deadlines .now; operations = a .operations .now; reference = a .reference; P = a .p; Q = a .q; buffer = a .rows .now } in
-    refuses-three x (sym (c .before .before .before .if1 .left)) (sym (c .before .before .if2 .left)) (c .before .if3 .left) (c .if4 .taken)
-
-bad-pace-requires : tie.Need-bad-pace-requires
-bad-pace-requires c κs = search needs
-
-returns-5 : tie.Need-returns-5
-returns-5 c =
-    let s = c .before .before .before .before .before .before .before .before .before .before in
-    let a = s .args in
-    let x : Input = record { arrivals = a .arrivals .now; deadlines = a .deadlines .now; operations = a .operations .now; reference = a .reference; P = a .p; Q = a .q; buffer = a .rows .now } in
-    refuses-four x (sym (c .before .before .before .before .before .if1 .left)) (sym (c .before .before .before .before .if2 .left)) (c .before .before .before .if3 .left) (c .before .before .if4 .left) (inl (c .before .bad-pace .ensures .0 (c .if5 .taken)))
-
-bad-pace-requires-2 : tie.Need-bad-pace-requires-2
-bad-pace-requires-2 c κs = search needs
-
-returns-6 : tie.Need-returns-6
-returns-6 c =
-    let s = c .before .before .before .before .before .before .before .before .before .before .before .before in
-    let a = s .args in
-    let x : Input = record { arrivals = a .arrivals .now; deadlines = a .deadlines .now; operations = a .operations .now; reference = a .reference; P = a .p; Q = a .q; buffer = a .rows .now } in
-    refuses-four x (sym (c .before .before .before .before .before .before .before .if1 .left)) (sym (c .before .before .before .before .before .before .if2 .left)) (c .before .before .before .before .before .if3 .left) (c .before .before .before .before .if4 .left) (inr (c .before .bad-pace2 .ensures .0 (c .if6 .taken)))
-
-new-requires : tie.Need-new-requires
-new-requires c κs = search needs
+-- where they are silent
+quiet : (c : tie.After-enum-told) → Passed (wholeRules (input (c .before .before)))
+quiet c = passed (c .before .before .counts .ensures) (c .enum-told .given .1)
 
 settle-readings-requires : tie.Need-settle-readings-requires
 settle-readings-requires c κs =
-    let s = c .before .before .before .before .before .before .before .before .before .before .before .before .before .before in
-    let a = s .args in
-    let x : Input = record { arrivals = a .arrivals .now; deadlines = a .deadlines .now; operations = a .operations .now; reference = a .reference; P = a .p; Q = a .q; buffer = a .rows .now } in
-    (sized x (sym (c .before .before .before .before .before .before .before .before .before .if1 .left)) (sym (c .before .before .before .before .before .before .before .before .if2 .left)) (c .before .before .before .before .before .before .before .if3 .left) (c .before .before .before .before .before .before .if4 .left) (c .before .before .before .before .before .bad-pace .ensures .1 (c .before .before .before .before .if5 .left)) (c .before .before .before .bad-pace2 .ensures .1 (c .before .before .if6 .left)), subst (λ r. Paced (r .p) (r .q)) (sym (c .before .new .ensures)) (paced x (sym (c .before .before .before .before .before .before .before .before .before .if1 .left)) (sym (c .before .before .before .before .before .before .before .before .if2 .left)) (c .before .before .before .before .before .before .before .if3 .left) (c .before .before .before .before .before .before .if4 .left) (c .before .before .before .before .before .bad-pace .ensures .1 (c .before .before .before .before .if5 .left)) (c .before .before .before .bad-pace2 .ensures .1 (c .before .before .if6 .left))))
+    let t = c .before in
+    let x = input (t .before .before) in
+    (sized-lists (x .arrivals) (x .deadlines) (x .operations) (x .buffer) (x .terms) (quiet t), good-terms (x .arrivals) (x .deadlines) (x .operations) (x .buffer) (x .terms) (quiet t))
 
-same-length : tie.Need-same-length
-same-length c = search needs
-
-returns-7 : tie.Need-returns-7
-returns-7 c =
-    let s = c .before .before .before .before .before .before .before .before .before .before .before .before .before .before .before .before .before in
-    let a = s .args in
-    let x : Input = record { arrivals = a .arrivals .now; deadlines = a .deadlines .now; operations = a .operations .now; reference = a .reference; P = a .p; Q = a .q; buffer = a .rows .now } in
-    goes-to-reports x (sym (c .before .before .before .before .before .before .before .before .before .before .before .before .if1 .left)) (sym (c .before .before .before .before .before .before .before .before .before .before .before .if2 .left)) (c .before .before .before .before .before .before .before .before .before .before .if3 .left) (c .before .before .before .before .before .before .before .before .before .if4 .left) (c .before .before .before .before .before .before .before .before .bad-pace .ensures .1 (c .before .before .before .before .before .before .before .if5 .left)) (c .before .before .before .before .before .before .bad-pace2 .ensures .1 (c .before .before .before .before .before .if6 .left)) _ _ _ _
-    (subst (λ r. Outcome (reportRules (offsetsOf (r .reference) (a .arrivals .now) (a .deadlines .now) (a .operations .now)) (over (r .p) (r .q))) (offsetsOf (r .reference) (a .arrivals .now) (a .deadlines .now) (a .operations .now)) (over (r .p) (r .q)) (a .rows .now) (numberOf (c .before .before .settle-readings .result)) (placeOf (c .before .before .settle-readings .result)) (blocksOf (c .before .before .settle-readings .result)) (c .before .before .settle-readings .last .1 .1 .1 .1 .0)) (c .before .before .before .before .new .ensures) (c .before .before .settle-readings .ensures))
+returns-2 : tie.Need-returns-2
+returns-2 c =
+    let s = c .before .before in
+    let t = s .before .before in
+    let x = input (t .before .before) in
+    goes-on (reportsOf x) (fastestOf x) (x .buffer) (wholeRules x) (reportRules (reportsOf x) (fastestOf x)) _ _ _ _ (quiet t) (s .settle-readings .ensures)
 
 pub plan-spec : {M : Type 1} → statement M
 plan-spec =
     tie.close
     (tie.spec
+    (λ c κs. search needs)
+    (λ c. search needs)
     returns
-    returns-2
-    returns-3
-    mul-if4
-    returns-4
-    bad-pace-requires
-    returns-5
-    bad-pace-requires-2
-    returns-6
-    new-requires
+    (λ c. search needs)
     settle-readings-requires
-    same-length
-    returns-7)
+    (λ c. search needs)
+    returns-2)

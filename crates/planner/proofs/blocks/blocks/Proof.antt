@@ -89,18 +89,24 @@ search-less c =
 search-again : tie.Need-search-again Inv-search μ-search Inv-loop μ-loop
 search-again c = kept (c .before) .0
 
+cast-t19 : tie.Need-cast-t19 Inv-search μ-search Inv-loop μ-loop
+cast-t19 c =
+    let t = c .before .before .before .before in
+    omega (arith, t .before .before .before .before .loop-test .taken, entry t .pre .0 .few)
+
+cast-t21 : tie.Need-cast-t21 Inv-search μ-search Inv-loop μ-loop
+cast-t21 c =
+    let t = c .before .before .before .before in
+    let end-is = found (c .before) in
+    omega (arith, end-is .on, end-is .stretch .on-list, entry t .pre .0 .few)
+
 put-row-requires : tie.Need-put-row-requires Inv-search μ-search Inv-loop μ-loop
 put-row-requires c κs =
     let t = c .before .before .before .before .before in
     let l = turn t .loop in
     let s = entry t in
     let a = s .args in
-    let end-is = found (c .before .before) in
-    let more = t .before .before .before .before .loop-test .taken in (
-      put-room (a .arrivals .now) (a .deadlines .now) (a .operations .now) (s .pre .0) (a .rows .now) (s .pre .1) (l .count) (l .first) (l .ended) (from t) (l .rows) (l .inv) (c .before .before .step .given .0 .0) end-is (t .before .before .later .ensures) more,
-      omega (arith, more, s .pre .0 .few),
-      omega (arith, end-is .on, end-is .stretch .on-list, s .pre .0 .few),
-    )
+    put-room (a .arrivals .now) (a .deadlines .now) (a .operations .now) (s .pre .0) (a .rows .now) (s .pre .1) (l .count) (l .first) (l .ended) (from t) (l .rows) (l .inv) (c .before .before .step .given .0 .0) (found (c .before .before)) (t .before .before .later .ensures) (t .before .before .before .before .loop-test .taken)
 
 add-count : tie.Need-add-count Inv-search μ-search Inv-loop μ-loop
 add-count c = search needs
@@ -152,6 +158,8 @@ blocks-spec =
     enum-known-step-2
     search-less
     search-again
+    cast-t19
+    cast-t21
     put-row-requires
     add-count
     add-first

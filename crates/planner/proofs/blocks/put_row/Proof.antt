@@ -1,91 +1,52 @@
--- `planner::blocks::put_row` meets its contract: five stores, within the buffer.
+-- `planner::blocks::put_row` meets its contract: a loop that copies the row's numbers.
 -- Assumes nothing.
 use borrow.Author.Needs.{needs}
-use mathlib.Core.Path.{refl}
+use Prim.Native.Nat.{_+_, _*_, _-_, _≤_}
+use mathlib.Core.Path.{_≡_, _∙_, ap}
 use native.Mathlib.Omega.{arith}
-use lib.ListN.{length-set}
+use lib.ListN.{length}
+use Rattle.answers.specs.Numbers.{width}
 use Rattle.planner.specs.Inside.{putRow}
+use Rattle.planner.proofs.Laws.{Copied, copied-none, copied-long, copied-more, copied-all}
 use Rattle.planner.proofs.blocks.put_row.Statement.{statement}
 use Rattle.planner.proofs.blocks.put_row.Tie as tie
 
-mul-at : tie.Need-mul-at
-mul-at c = search needs
+abbrev Inv-loop : tie.InvT-loop
+Inv-loop rows₀ k numbers at j₀ rows j = Copied rows₀ at numbers width j rows
 
-cast-rows : tie.Need-cast-rows
-cast-rows c = search needs
+abbrev μ-loop : tie.MeasureT-loop
+μ-loop rows₀ k numbers at j₀ rows j = width - j
 
-mul-rows : tie.Need-mul-rows
-mul-rows c = search needs
+-- ---- the place of the loop
+abbrev At : Type 0
+At = tie.At-loop Inv-loop μ-loop
 
-slice-write-rows : tie.Need-slice-write-rows
-slice-write-rows c = search needs
+abbrev entry : At → tie.Start Inv-loop μ-loop
+entry l = l .before .before .before
 
-cast-rows-2 : tie.Need-cast-rows-2
-cast-rows-2 c = search needs
+-- there is room for the row, and it has all its numbers
+room : (l : At) → width * entry l .args .k + width ≤ length (entry l .args .rows .now)
+room l = entry l .pre
 
-add-rows : tie.Need-add-rows
-add-rows c = search needs
-
-mul-rows-2 : tie.Need-mul-rows-2
-mul-rows-2 c = search needs
-
-slice-write-rows-2 : tie.Need-slice-write-rows-2
-slice-write-rows-2 c = simp length-set (omega arith)
-
-add-rows-2 : tie.Need-add-rows-2
-add-rows-2 c = search needs
-
-mul-rows-3 : tie.Need-mul-rows-3
-mul-rows-3 c = search needs
-
-slice-write-rows-3 : tie.Need-slice-write-rows-3
-slice-write-rows-3 c = simp length-set (omega arith)
-
-add-rows-3 : tie.Need-add-rows-3
-add-rows-3 c = search needs
-
-mul-rows-4 : tie.Need-mul-rows-4
-mul-rows-4 c = search needs
-
-slice-write-rows-4 : tie.Need-slice-write-rows-4
-slice-write-rows-4 c = simp length-set (omega arith)
-
-add-rows-4 : tie.Need-add-rows-4
-add-rows-4 c = search needs
-
-mul-rows-5 : tie.Need-mul-rows-5
-mul-rows-5 c = search needs
-
-slice-write-rows-5 : tie.Need-slice-write-rows-5
-slice-write-rows-5 c = simp length-set (omega arith)
-
-same-length : tie.Need-same-length
-same-length c = search needs
-
-returns : tie.Need-returns
-unfolding putRow
-returns c = refl
+long : (l : At) → length (l .before .numbers .result) ≡ width
+long l = ap length (l .before .numbers .ensures)
 
 pub put-row-spec : {M : Type 1} → statement M
 put-row-spec =
     tie.close
     (tie.spec
-    mul-at
-    cast-rows
-    mul-rows
-    slice-write-rows
-    cast-rows-2
-    add-rows
-    mul-rows-2
-    slice-write-rows-2
-    add-rows-2
-    mul-rows-3
-    slice-write-rows-3
-    add-rows-3
-    mul-rows-4
-    slice-write-rows-4
-    add-rows-4
-    mul-rows-5
-    slice-write-rows-5
-    same-length
-    returns)
+    Inv-loop
+    μ-loop
+    (λ c κs. search needs)
+    (λ c. search needs)
+    (λ c. copied-none)
+    (λ c. search needs)
+    (λ c. search needs)
+    (λ c. search needs)
+    (λ c. search needs)
+    (λ c. let l = c .before in omega (arith, copied-long (room l) (long l) (l .loop .inv), room l, c .loop-test .taken))
+    (λ c. search needs)
+    (λ c. search needs)
+    (λ c. let l = c .before in copied-more (room l) (long l) (l .loop .inv) (c .loop-test .taken))
+    (λ c. let l = c .before in copied-long (room l) (long l) (l .loop .inv))
+    (λ c. let l = c .before in copied-all (room l) (long l) (l .loop .inv) (c .loop-test .left) ∙ ap (putRow (entry l .args .rows .now) (entry l .args .k)) (l .before .numbers .ensures)))

@@ -29,7 +29,7 @@ add-result : tie.Need-add-result
 add-result c = let s = c .before .before .before .before .before in omega (arith, mul-le-mul (s .pre .0) (s .pre .1))
 
 add-result-2 : tie.Need-add-result-2
-add-result-2 c = let s = c .before .before .before .before .before in omega (arith, mul-le-mul {n₁ = s .args .roll .q} {m₁ = s .args .report .arrival} {n₂ = 65535} {m₂ = 4294967295} (s .pre .2) (omega arith), mul-le-mul (s .pre .0) (s .pre .1))
+add-result-2 c = let s = c .before .before .before .before .before in omega (arith, mul-le-mul {n₁ = s .args .terms .q} {m₁ = s .args .report .arrival} {n₂ = 65535} {m₂ = 4294967295} (s .pre .2) (omega arith), mul-le-mul (s .pre .0) (s .pre .1))
 
 returns : tie.Need-returns
 returns c = search needs

@@ -27,7 +27,7 @@ abbrev μ-loop : tie.MeasureT-loop
 loop-holds : tie.Need-loop-holds Inv-loop μ-loop
 loop-holds c =
     let a = c .before .before .before .args in
-    (search needs, through-zero (listOf (a .arrivals .now) (a .deadlines .now) (a .operations .now)) (a .roll .p) (a .roll .q), search needs, λ i h. absurd (not-suc-le-zero h))
+    (search needs, through-zero (listOf (a .arrivals .now) (a .deadlines .now) (a .operations .now)) (a .terms .p) (a .terms .q), search needs, λ i h. absurd (not-suc-le-zero h))
 
 mul-new : tie.Need-mul-new Inv-loop μ-loop
 mul-new c = search needs
@@ -74,17 +74,17 @@ abbrev list : Turn → Reports
 list c = listOf (entry c .args .arrivals .now) (entry c .args .deadlines .now) (entry c .args .operations .now)
 
 -- the two numbers that are compared: Q times the finish, by the report's own numbers and as the pass has it; and Q times the deadline
-finished : (c : Turn) → c .before .finish .result ≡ max (entry c .args .roll .q * list c .arrival (turn c .loop .i)) (turn c .loop .done) + list c .operations (turn c .loop .i) * entry c .args .roll .p
-finished c = c .before .finish .ensures ∙ ap (λ r. max (entry c .args .roll .q * r .arrival) (turn c .loop .done) + r .operations * entry c .args .roll .p) (c .before .before .new .ensures)
+finished : (c : Turn) → c .before .finish .result ≡ max (entry c .args .terms .q * list c .arrival (turn c .loop .i)) (turn c .loop .done) + list c .operations (turn c .loop .i) * entry c .args .terms .p
+finished c = c .before .finish .ensures ∙ ap (λ r. max (entry c .args .terms .q * r .arrival) (turn c .loop .done) + r .operations * entry c .args .terms .p) (c .before .before .new .ensures)
 
-passed : (c : Turn) → c .before .finish .result ≡ through (list c) (entry c .args .roll .p) (entry c .args .roll .q) (turn c .loop .i + 1)
+passed : (c : Turn) → c .before .finish .result ≡ through (list c) (entry c .args .terms .p) (entry c .args .terms .q) (turn c .loop .i + 1)
 passed c =
     let s = entry c in
     let l = turn c .loop in
-    through-step (list c) (s .args .roll .p) (s .args .roll .q) (s .pre .1 .p-some) (s .pre .1 .q-some) (l .i) (l .done) (c .before .finish .result) (l .inv .1) (finished c)
+    through-step (list c) (s .args .terms .p) (s .args .terms .q) (s .pre .1 .p-some) (s .pre .1 .q-some) (l .i) (l .done) (c .before .finish .result) (l .inv .1) (finished c)
 
-due : (c : Turn) → c .due .result ≡ entry c .args .roll .q * list c .deadline (turn c .loop .i)
-due c = c .due .ensures ∙ ap (λ r. entry c .args .roll .q * r .deadline) (c .before .before .new .ensures)
+due : (c : Turn) → c .due .result ≡ entry c .args .terms .q * list c .deadline (turn c .loop .i)
+due c = c .due .ensures ∙ ap (λ r. entry c .args .terms .q * r .deadline) (c .before .before .new .ensures)
 
 returns : tie.Need-returns Inv-loop μ-loop
 returns c =
@@ -93,7 +93,7 @@ returns c =
     let l = turn t .loop in
     record {
       within = search needs;
-      stops = λ h. stops-at (list t) (s .args .roll .p) (s .args .roll .q) (s .pre .1 .p-some) (s .pre .1 .q-some) (l .i) h (l .inv .3) (omega (arith, passed t, due t, c .if1 .taken));
+      stops = λ h. stops-at (list t) (s .args .terms .p) (s .args .terms .q) (s .pre .1 .p-some) (s .pre .1 .q-some) (l .i) h (l .inv .3) (omega (arith, passed t, due t, c .if1 .taken));
       passes = λ x. absurd (omega (arith, x));
     }
 
@@ -108,8 +108,8 @@ loop-again c =
     let t = c .before in
     let s = entry t in
     let l = turn t .loop in
-    let p = s .args .roll .p in
-    let q = s .args .roll .q in (
+    let p = s .args .terms .p in
+    let q = s .args .terms .q in (
       search needs,
       passed t,
       omega (arith, finished t, through-bound (list t .arrival (l .i)) (list t .operations (l .i)) p q (l .done) (l .i) (s .pre .0 .arrive (l .i) (search needs)) (s .pre .1 .q-most) (s .pre .0 .work (l .i) (search needs)) (s .pre .1 .p-most) (l .inv .2)),
@@ -121,8 +121,8 @@ returns-2 c =
     let l = c .before in
     let s = l .before .before .before .before in
     let a = s .args in
-    let p = a .roll .p in
-    let q = a .roll .q in
+    let p = a .terms .p in
+    let q = a .terms .q in
     let ℓ = listOf (a .arrivals .now) (a .deadlines .now) (a .operations .now) in
     let i = l .loop .i in
     let n = length (a .arrivals .now) in

@@ -1,34 +1,30 @@
 -- `planner::settle::plan_fair` meets its contract: rule 9, or the rows.
 -- Assumes nothing.
 use borrow.Author.Needs.{needs}
-use Rattle.critical.specs.Reports.{listOf}
+use Rattle.critical.specs.Reports.{Reports, listOf}
 use Rattle.planner.proofs.Outcomes.{refuses-nine, plans-all}
 use Rattle.planner.proofs.settle.plan_fair.Statement.{statement}
 use Rattle.planner.proofs.settle.plan_fair.Tie as tie
 
-first-without-requires : tie.Need-first-without-requires
-first-without-requires c κs = search needs
+-- ---- where the pass has ended
+abbrev entry : tie.After-first-without → tie.Start
+entry c = c .before .before .before .before .before
+
+abbrev list : tie.After-first-without → Reports
+list c = let a = entry c .args in listOf (a .arrivals .now) (a .deadlines .now) (a .operations .now)
 
 returns : tie.Need-returns
 returns c =
-    let s = c .before .before .before .before .before .before in
-    let a = s .args in
-    let ℓ = listOf (a .arrivals .now) (a .deadlines .now) (a .operations .now) in
-    refuses-nine ℓ (a .roll .p) (a .roll .q) (s .pre .1 .1) (a .rows .now) (c .before .first-without .result) (c .before .first-without .ensures) (c .if1 .taken)
-
-blocks-requires : tie.Need-blocks-requires
-blocks-requires c κs = search needs
-
-same-length : tie.Need-same-length
-same-length c = search needs
+    let w = c .before in
+    let s = entry w in
+    refuses-nine (list w) (s .args .terms) (s .pre .1 .1) (s .args .rows .now) (w .first-without .result) (w .first-without .ensures) (c .if1 .taken)
 
 returns-2 : tie.Need-returns-2
 returns-2 c =
-    let s = c .before .before .before .before .before .before .before .before .before .before in
-    let a = s .args in
-    let ℓ = listOf (a .arrivals .now) (a .deadlines .now) (a .operations .now) in
-    plans-all ℓ (a .roll .p) (a .roll .q) (s .pre .1 .1) (a .rows .now) (c .before .before .before .before .before .first-without .result) (c .before .before .blocks2 .result) _ (c .before .before .before .before .before .first-without .ensures) (c .before .before .before .before .if1 .left) (c .before .before .blocks2 .ensures)
+    let b = c .before .before in
+    let w = b .before .before .before in
+    let s = entry w in
+    plans-all (list w) (s .args .terms) (s .pre .1 .1) (s .args .rows .now) (w .first-without .result) (b .blocks2 .result) _ (w .first-without .ensures) (b .before .before .if1 .left) (b .blocks2 .ensures)
 
 pub plan-fair-spec : {M : Type 1} → statement M
-plan-fair-spec =
-    tie.close (tie.spec first-without-requires returns blocks-requires same-length returns-2)
+plan-fair-spec = tie.close (tie.spec (λ c κs. search needs) returns (λ c κs. search needs) (λ c. search needs) returns-2)

@@ -1,75 +1,76 @@
 -- `planner::settle::settle_readings` meets its contract: the fronts of the scratch arrays are the offsets.
 -- Assumes nothing.
 use borrow.Author.Needs.{needs}
-use mathlib.Core.Path.{refl}
-use lib.ListN.{length}
-use Rattle.fraction.specs.Fraction.{over}
-use Rattle.planner.specs.Offsets.{offset}
+use Prim.Native.Nat.{ℕ}
+use mathlib.Core.Path.{_≡_, refl}
+use mathlib.Core.List.{List, map}
+use lib.ListN.{length, take}
+use Rattle.planner.specs.Offsets.{offset, paceOf}
 use Rattle.planner.proofs.Outcomes.{front, front-long, sized-offsets, outcome-offsets}
 use Rattle.planner.proofs.settle.settle_readings.Statement.{statement}
 use Rattle.planner.proofs.settle.settle_readings.Tie as tie
 
-slice-aggregate-offsets : tie.Need-slice-aggregate-offsets
-slice-aggregate-offsets c = search needs
+-- ---- where both scratch arrays are filled
+abbrev first : tie.After-offsets2 → tie.After-offsets
+first c = c .before .before .before
 
-offsets-requires : tie.Need-offsets-requires
-offsets-requires c κs = search needs
+abbrev entry : tie.After-offsets2 → tie.Start
+entry c = first c .before .before .before .before .before .before
 
-slice-aggregate-offsets-2 : tie.Need-slice-aggregate-offsets-2
-slice-aggregate-offsets-2 c = search needs
+abbrev by : tie.After-offsets2 → ℕ → ℕ
+by c = offset (entry c .args .terms .reference)
 
-offsets-requires-2 : tie.Need-offsets-requires-2
-offsets-requires-2 c κs = search needs
+abbrev n : tie.After-offsets2 → ℕ
+n c = length (entry c .args .arrivals .now)
 
-array-share-prefix-from : tie.Need-array-share-prefix-from
-array-share-prefix-from c = search needs
+-- what stands in them
+abbrev from : tie.After-offsets2 → List ℕ
+from c = first c .offsets .last .1 .1 .0
+
+abbrev due : tie.After-offsets2 → List ℕ
+due c = c .offsets2 .last .1 .1 .0
+
+from-is : (c : tie.After-offsets2) → take (n c) (from c) ≡ map (by c) (entry c .args .arrivals .now)
+from-is c = front (by c) (entry c .args .arrivals .now) (from c) (n c) refl (first c .offsets .ensures)
+
+due-is : (c : tie.After-offsets2) → take (n c) (due c) ≡ map (by c) (entry c .args .deadlines .now)
+due-is c = front (by c) (entry c .args .deadlines .now) (due c) (n c) (entry c .pre .0 .deadlines-long) (c .offsets2 .ensures)
 
 slice-aggregate-settle : tie.Need-slice-aggregate-settle
 slice-aggregate-settle c =
-    let s = c .before .before .before .before .before .before .before .before .before .before .before in
-    let a = s .args in
-    let g = offset (a .roll .reference) in
-    front-long g (a .arrivals .now) (c .before .before .before .before .before .offsets .last .1 .1 .0) (length (a .arrivals .now)) refl (c .before .before .before .before .before .offsets .ensures)
-
-array-share-prefix-due : tie.Need-array-share-prefix-due
-array-share-prefix-due c = search needs
+    let o = c .before .before in
+    front-long (by o) (entry o .args .arrivals .now) (from o) (n o) refl (first o .offsets .ensures)
 
 slice-aggregate-settle-2 : tie.Need-slice-aggregate-settle-2
 slice-aggregate-settle-2 c =
-    let s = c .before .before .before .before .before .before .before .before .before .before .before .before in
-    let a = s .args in
-    let g = offset (a .roll .reference) in
-    front-long g (a .deadlines .now) (c .before .before .before .offsets2 .last .1 .1 .0) (length (a .arrivals .now)) (s .pre .0 .deadlines-long) (c .before .before .before .offsets2 .ensures)
+    let o = c .before .before .before in
+    front-long (by o) (entry o .args .deadlines .now) (due o) (n o) (entry o .pre .0 .deadlines-long) (o .offsets2 .ensures)
 
 settle-requires : tie.Need-settle-requires
 settle-requires c κs =
-    let s = c .before .before .before .before .before .before .before .before .before .before .before .before .before in
-    let a = s .args in
-    let g = offset (a .roll .reference) in
-    (sized-offsets g (a .arrivals .now) (a .deadlines .now) (a .operations .now) _ _ (a .rows .now) (front g (a .arrivals .now) (c .before .before .before .before .before .before .before .offsets .last .1 .1 .0) (length (a .arrivals .now)) refl (c .before .before .before .before .before .before .before .offsets .ensures)) (front g (a .deadlines .now) (c .before .before .before .before .offsets2 .last .1 .1 .0) (length (a .arrivals .now)) (s .pre .0 .deadlines-long) (c .before .before .before .before .offsets2 .ensures)) (s .pre .0), s .pre .1)
-
-same-length : tie.Need-same-length
-same-length c = search needs
+    let o = c .before .before .before .before in
+    let a = entry o .args in
+    (sized-offsets (by o) (a .arrivals .now) (a .deadlines .now) (a .operations .now) _ _ (a .rows .now) (from-is o) (due-is o) (entry o .pre .0), entry o .pre .1)
 
 returns : tie.Need-returns
 returns c =
-    let s = c .before .before .before .before .before .before .before .before .before .before .before .before .before .before .before .before in
-    let a = s .args in
-    let g = offset (a .roll .reference) in
-    outcome-offsets (a .roll .reference) (a .arrivals .now) (a .deadlines .now) (a .operations .now) _ _ (over (a .roll .p) (a .roll .q)) (a .rows .now) _ _ _ _ (front g (a .arrivals .now) (c .before .before .before .before .before .before .before .before .before .before .offsets .last .1 .1 .0) (length (a .arrivals .now)) refl (c .before .before .before .before .before .before .before .before .before .before .offsets .ensures)) (front g (a .deadlines .now) (c .before .before .before .before .before .before .before .offsets2 .last .1 .1 .0) (length (a .arrivals .now)) (s .pre .0 .deadlines-long) (c .before .before .before .before .before .before .before .offsets2 .ensures)) (c .before .before .settle .ensures)
+    let s = c .before .before in
+    let o = s .before .before .before .before .before in
+    let a = entry o .args in
+    outcome-offsets (a .terms .reference) (a .arrivals .now) (a .deadlines .now) (a .operations .now) _ _ (paceOf (a .terms)) (a .rows .now) _ _ _ _ (from-is o) (due-is o) (s .settle .ensures)
 
 pub settle-readings-spec : {M : Type 1} → statement M
 settle-readings-spec =
     tie.close
     (tie.spec
-    slice-aggregate-offsets
-    offsets-requires
-    slice-aggregate-offsets-2
-    offsets-requires-2
-    array-share-prefix-from
+    (λ c. search needs)
+    (λ c κs. search needs)
+    (λ c. search needs)
+    (λ c κs. search needs)
+    (λ c. search needs)
     slice-aggregate-settle
-    array-share-prefix-due
+    (λ c. search needs)
     slice-aggregate-settle-2
     settle-requires
-    same-length
+    (λ c. search needs)
     returns)

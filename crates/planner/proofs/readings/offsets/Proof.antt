@@ -1,4 +1,4 @@
--- `planner::rules::offsets` meets its contract. The invariant: the front of out is the offsets of the readings passed. The measure is what is left of them.
+-- `planner::readings::offsets` meets its contract. The invariant: the front of out is the offsets of the readings passed. The measure is what is left of them.
 -- Assumes nothing.
 use borrow.Author.Needs.{needs}
 use native.Mathlib.Omega.{arith}
@@ -8,8 +8,8 @@ use mathlib.Core.Path.{_≡_}
 use mathlib.Core.List.{map}
 use lib.ListN.{length, getD, take}
 use Rattle.planner.specs.Offsets.{offset}
-use Rattle.planner.proofs.rules.offsets.Statement.{statement}
-use Rattle.planner.proofs.rules.offsets.Tie as tie
+use Rattle.planner.proofs.readings.offsets.Statement.{statement}
+use Rattle.planner.proofs.readings.offsets.Tie as tie
 
 abbrev Inv-loop : tie.InvT-loop
 Inv-loop readings reference out₀ i₀ out i = (i ≤ length readings) × (length out ≡ length out₀) × (take i out ≡ map (offset reference) (take i readings))

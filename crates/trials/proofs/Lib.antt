@@ -1,0 +1,6 @@
+pub mod Passing
+pub mod Scanning
+pub mod Trying
+pub mod Single
+pub mod Deciding
+pub mod Numbers
