@@ -12,7 +12,7 @@ use Rattle.answers.specs.Numbers.{width}
 use Rattle.trials.specs.Rules.{Rule, Outside}
 use Rattle.trials.specs.Tries.{Tells}
 use Rattle.trials.proofs.Trying.{tells-as, tells-below}
-use Rattle.trials.proofs.Passing.{Passed, Quiet, heads, tails, unfaulted, untrue}
+use Rattle.trials.proofs.Passing.{Passed, Quiet, finding, unfaulted, untrue}
 use Rattle.fraction.proofs.Scale.{cases}
 use Rattle.critical.specs.Reports.{Reports, listOf, Working}
 use Rattle.planner.specs.Rules.{lengthsRule, manyRule, shortRule, paceRule, countRules, operationsRule, arrivalRule, deadlineRule, formRules}
@@ -46,9 +46,9 @@ working ℓ q i h = within-range 1 65535 (ℓ .operations i) (unfaulted q i h) .
 module _ (xs ys ws before : List ℕ) (terms : Roll) (p : Passed (countRules (length xs) (length ys) (length ws) terms (length before))) where
   pub sized-lists : Sized xs ys ws before
   sized-lists =
-      let lengths : Quiet (lengthsRule (length xs) (length ys) (length ws)) = search (heads, tails) in
-      let many : Quiet (manyRule (length xs)) = search (heads, tails) in
-      let short : Quiet (shortRule (length xs) (length before)) = search (heads, tails) in
+      let lengths : Quiet (lengthsRule (length xs) (length ys) (length ws)) = search finding in
+      let many : Quiet (manyRule (length xs)) = search finding in
+      let short : Quiet (shortRule (length xs) (length before)) = search finding in
       record {
         deadlines-long = elim (ℕ-discrete (length ys) (length xs)) [ yes e ↦ e | no h ↦ absurd (untrue lengths (inl (λ e. h (sym e)))) ];
         operations-long = elim (ℕ-discrete (length ws) (length xs)) [ yes e ↦ e | no h ↦ absurd (untrue lengths (inr (λ e. h (sym e)))) ];
@@ -57,7 +57,7 @@ module _ (xs ys ws before : List ℕ) (terms : Roll) (p : Passed (countRules (le
       }
 
   pub good-terms : Paced terms
-  good-terms = let pace : Quiet (paceRule terms) = search (heads, tails) in good-pace pace
+  good-terms = let pace : Quiet (paceRule terms) = search finding in good-pace pace
 
 -- ---- and rules 5 to 7
 module _ (xs ys ws before : List ℕ) (sized : Sized xs ys ws before) (p : Passed (formRules (listOf xs ys ws))) where
@@ -66,9 +66,9 @@ module _ (xs ys ws before : List ℕ) (sized : Sized xs ys ws before) (p : Passe
 
   pub fair-lists : Fair xs ys ws
   fair-lists =
-      let work : Quiet (operationsRule ℓ) = search (heads, tails) in
-      let arrive : Quiet (arrivalRule ℓ) = search (heads, tails) in
-      let due : Quiet (deadlineRule ℓ) = search (heads, tails) in
+      let work : Quiet (operationsRule ℓ) = search finding in
+      let arrive : Quiet (arrivalRule ℓ) = search finding in
+      let due : Quiet (deadlineRule ℓ) = search finding in
       record {
         deadlines-long = sized .deadlines-long;
         operations-long = sized .operations-long;

@@ -5,3 +5,7 @@ pub mod Writing
 pub mod Building
 pub mod Leaving
 pub mod Outcomes
+pub mod OneResult
+pub mod SomeResult
+pub mod Demands
+pub mod WrongAnswers

@@ -17,26 +17,26 @@ use Rattle.trials.proofs.Passing.{Passed}
 pub record Decidable (P : Type 0) : Type 0 where
   pub decided : P ⊎ (P → ⊥)
 
-pub dec-below : {a b : ℕ} → Decidable (a < b)
+unfoldable pub dec-below : {a b : ℕ} → Decidable (a < b)
 dec-below {a} {b} = record { decided = elim (decLt a b) [ yes h ↦ inl h | no h ↦ inr h ] }
 
-pub dec-equal : {a b : ℕ} → Decidable (a ≡ b)
+unfoldable pub dec-equal : {a b : ℕ} → Decidable (a ≡ b)
 dec-equal {a} {b} = record { decided = elim (ℕ-discrete a b) [ yes e ↦ inl e | no h ↦ inr h ] }
 
-pub dec-not : {P : Type 0} → Decidable P → Decidable (P → ⊥)
+unfoldable pub dec-not : {P : Type 0} → Decidable P → Decidable (P → ⊥)
 dec-not d = record { decided = ⊎-elim (λ h. inr (λ n. n h)) (λ h. inl h) (d .decided) }
 
-pub dec-or : {P Q : Type 0} → Decidable P → Decidable Q → Decidable (P ⊎ Q)
+unfoldable pub dec-or : {P Q : Type 0} → Decidable P → Decidable Q → Decidable (P ⊎ Q)
 dec-or d e = record { decided = ⊎-elim (λ h. inl (inl h)) (λ h. ⊎-elim (λ k. inl (inr k)) (λ k. inr (λ o. ⊎-elim h k o)) (e .decided)) (d .decided) }
 
-pub dec-falls : (a : ℕ → ℕ) (i : ℕ) → Decidable (Falls a i)
+unfoldable pub dec-falls : (a : ℕ → ℕ) (i : ℕ) → Decidable (Falls a i)
 unfolding Falls
 dec-falls a zero = record { decided = inr (λ f. f) }
 dec-falls a (suc i) = dec-below
 
 -- ---- rules
 -- a fault that can be decided has a least report or none
-least-or-none : (n : ℕ) (F : ℕ → Type 0) → ((i : ℕ) → Decidable (F i)) → ((p : ℕ) × Least n F p) ⊎ ((p : ℕ) → Least n F p → ⊥)
+unfoldable pub least-or-none : (n : ℕ) (F : ℕ → Type 0) → ((i : ℕ) → Decidable (F i)) → ((p : ℕ) × Least n F p) ⊎ ((p : ℕ) → Least n F p → ⊥)
 least-or-none n F d = ⊎-elim (λ (f : (p : ℕ) × Least n F p). inl f) (λ h. inr (λ p l. h p (l .on-list) (l .at-fault))) (go n (le-refl n))
   where
     go : (m : ℕ) → m ≤ n → ((p : ℕ) × Least n F p) ⊎ ((i : ℕ) → i < m → F i → ⊥)
@@ -55,15 +55,15 @@ Decided (r ∷ rs) = (((p : ℕ) × r .given p) ⊎ Silent r) × (0 < r .number)
 pub record Decides (rules : List Rule) : Type 0 where
   pub decides : Decided rules
 
-pub decides-none : Decides []
+unfoldable pub decides-none : Decides []
 unfolding Decided
 decides-none = record { decides = tt }
 
-pub decides-whole : {number : ℕ} {P : Type 0} {qs : List Rule} → Decidable P → ltb 0 number ≡ true → Decides qs → Decides (rule number (Whole P) ∷ qs)
+unfoldable pub decides-whole : {number : ℕ} {P : Type 0} {qs : List Rule} → Decidable P → ltb 0 number ≡ true → Decides qs → Decides (rule number (Whole P) ∷ qs)
 unfolding Decided
 decides-whole {number} d some rest = record { decides = (⊎-elim (λ h. inl (0, (h, refl))) (λ h. inr (λ p g. h (g .0))) (d .decided), ltb-true 0 number some, rest .decides) }
 
-pub decides-least : {number n : ℕ} {F : ℕ → Type 0} {qs : List Rule} → ((i : ℕ) → Decidable (F i)) → ltb 0 number ≡ true → Decides qs → Decides (rule number (Least n F) ∷ qs)
+unfoldable pub decides-least : {number n : ℕ} {F : ℕ → Type 0} {qs : List Rule} → ((i : ℕ) → Decidable (F i)) → ltb 0 number ≡ true → Decides qs → Decides (rule number (Least n F) ∷ qs)
 unfolding Decided
 decides-least {number} {n} {F} d some rest = record { decides = (least-or-none n F d, ltb-true 0 number some, rest .decides) }
 
@@ -87,3 +87,19 @@ outcome (r ∷ rs) d =
 
 pub passed-or-given : {rules : List Rule} → Decides rules → Passed rules ⊎ Gives rules
 passed-or-given {rules} d = outcome rules (d .decides)
+
+-- ---- where a list of rules is written out, whether none is given can be computed
+unfoldable pub passes : (rules : List Rule) → Decided rules → Bool
+unfolding Decided
+passes [] d = true
+passes (r ∷ rs) d = ⊎-elim (λ _. false) (λ _. passes rs (d .2)) (d .0)
+
+-- so `passed-by d tt` proves it
+pub passed-by : {rules : List Rule} (d : Decides rules) → T (passes rules (d .decides)) → Passed rules
+unfolding passes Decided Accepted
+passed-by {rules} d t = record { accepted = go rules (d .decides) t }
+  where
+    go : (rules : List Rule) (d : Decided rules) → T (passes rules d) → Accepted rules
+    go [] d t = tt
+    go (r ∷ rs) (inl g, some, d) t = absurd t
+    go (r ∷ rs) (inr s, some, d) t = (s, go rs d t)

@@ -13,7 +13,7 @@ pub record Passed (rules : List Rule) : Type 0 where
 pub record Quiet (q : Rule) : Type 0 where
   pub silent : Silent q
 
--- these two find a rule in a list of rules: search (heads, tails)
+-- these two find a rule in a list of rules: search finding
 pub heads : {q : Rule} {qs : List Rule} → Passed (q ∷ qs) → Quiet q
 unfolding Accepted
 heads p = record { silent = p .accepted .0 }
@@ -21,6 +21,8 @@ heads p = record { silent = p .accepted .0 }
 pub tails : {q : Rule} {qs : List Rule} → Passed (q ∷ qs) → Passed qs
 unfolding Accepted
 tails p = record { accepted = p .accepted .1 }
+
+pub ruleset finding = (heads, tails)
 
 -- and these make a list of rules none of which is given
 pub more : {q : Rule} {qs : List Rule} → Quiet q → Passed qs → Passed (q ∷ qs)

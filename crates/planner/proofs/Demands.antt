@@ -1,0 +1,147 @@
+-- The demands, as theorems about `plan`: for the inspector. Each follows from the promise of `plan` alone, `PlanOutcome` (specs/Outcome.antt), which is proved of
+-- the running code for every input. x is what `plan` is handed; number, place, blocks and after are what it returns and what the row buffer then holds.
+-- Nothing is assumed.
+use Prim.Native.Nat.{ℕ, zero, suc, _≤_, _<_}
+use mathlib.Core.Path.{_≡_}
+use mathlib.Core.List.{List, [], _∷_, _++_}
+use mathlib.Core.Logic.{_↔_, inl, inr}
+use native.Mathlib.Omega.{arith}
+use Rattle.trials.specs.Rules.{Refused, Accepted}
+use Rattle.trials.proofs.Passing.{Passed, Quiet, finding}
+use Rattle.trials.proofs.Numbers.{refused-behind, by-another-rule, others}
+use Rattle.fraction.specs.Fraction.{Fraction, _≼_, _≺_, whole}
+use Rattle.critical.specs.Reports.{Reports, Paces, Positive, finish, Keeps, Allowed, Plannable, FirstWithout}
+use Rattle.critical.specs.Rows.{Row, planOf, Critical}
+use Rattle.critical.specs.Cost.{sumAt, Cost, Flatter, bill, NoHigher}
+use Rattle.critical.proofs.Room.{steady}
+use Rattle.critical.proofs.Theorems.{least-sum, least-cost, one-list-of-rows, first-failure, not-both, few-blocks}
+use Rattle.planner.specs.Offsets.{Input, reportsOf, fastestOf}
+use Rattle.planner.specs.Rules.{paceRule, wholeRules, formRules, planRule, planRules}
+use Rattle.planner.specs.Outcome.{rowAt, Written, Outcome, PlanOutcome}
+use Rattle.planner.proofs.Leaving.{good-pace}
+use Rattle.planner.proofs.Outcomes.{positive}
+use Rattle.planner.proofs.OneResult as One
+use Rattle.planner.proofs.SomeResult as Some
+
+-- The plan that the rows in the buffer stand for: each report at its row's pace.
+abbrev pub planIn : ℕ → List ℕ → Paces
+planIn blocks after = planOf blocks (rowAt after)
+
+-- ---- Demand 1. "Every input gets a plan or one numbered refusal; nothing is undefined."
+
+-- Every input has a result,
+pub every-input-is-answered : (x : Input) → (number : ℕ) × (place : ℕ) × (blocks : ℕ) × (after : List ℕ) × PlanOutcome x number place blocks after
+every-input-is-answered = Some.some-result
+
+-- and one only.
+pub by-one-answer-only :
+    (x : Input) (number place blocks number′ place′ blocks′ : ℕ) (after after′ : List ℕ) →
+    PlanOutcome x number place blocks after → PlanOutcome x number′ place′ blocks′ after′ →
+    (number ≡ number′) × (place ≡ place′) × (blocks ≡ blocks′) × (after ≡ after′)
+by-one-answer-only = One.one-result
+
+-- "A refusal returns its number, the report it concerns and block count 0, and writes to no buffer."
+pub a-refusal-writes-nothing :
+    (x : Input) (number place blocks : ℕ) (after : List ℕ) →
+    0 < number → PlanOutcome x number place blocks after →
+    Refused (planRules x) number place × (blocks ≡ 0) × (after ≡ x .buffer)
+unfolding Outcome
+a-refusal-writes-nothing x zero place blocks after h o = absurd (omega arith)
+a-refusal-writes-nothing x (suc k) place blocks after h o = o
+
+-- ---- Demand 2. "An accepted list yields exactly the blocks of the critical task rules."
+
+-- The rows are the blocks of the plan wanted, with 01's properties 1 to 4,
+pub an-accepted-list-has-its-blocks :
+    (x : Input) (place blocks : ℕ) (after : List ℕ) →
+    PlanOutcome x 0 place blocks after →
+    Critical (reportsOf x) (fastestOf x) blocks (rowAt after)
+unfolding Outcome
+an-accepted-list-has-its-blocks x place blocks after o = o .2 .rows
+
+-- and no other rows are.
+pub and-no-others :
+    (x : Input) (place blocks : ℕ) (after : List ℕ) (fastest : Fraction) (m : ℕ) (rows : ℕ → Row) →
+    PlanOutcome x 0 place blocks after → Critical (reportsOf x) fastest m rows →
+    (blocks ≡ m) × ((k : ℕ) → k < blocks → rowAt after k ≡ rows k)
+unfolding Outcome
+and-no-others x place blocks after fastest m rows o c =
+    one-list-of-rows (reportsOf x) (fastestOf x) fastest blocks m (rowAt after) rows (One.works x (record { accepted = o .0 })) (o .2 .rows) c
+
+-- A well-formed list with room: none of the rules 1 to 8 is given.
+abbrev pub WellFormed : Input → Type 0
+WellFormed x = Accepted (wholeRules x ++ formRules (reportsOf x))
+
+-- the last rule is rule 9
+refused-by-nine : (ℓ : Reports) (f : Fraction) (number place : ℕ) → Refused (planRule ℓ f ∷ []) number place → (number ≡ 9) × FirstWithout ℓ f place
+unfolding Refused
+refused-by-nine ℓ f number place (inl g) = g
+refused-by-nine ℓ f number place (inr r) = absurd (r .1)
+
+-- "A well-formed list with room is refused exactly when no plan in its order exists."
+pub a-well-formed-list-is-refused-exactly-when-there-is-no-plan :
+    (x : Input) (number place blocks : ℕ) (after : List ℕ) →
+    WellFormed x → PlanOutcome x number place blocks after →
+    (0 < number) ↔ (Plannable (reportsOf x) (fastestOf x) → ⊥)
+unfolding Outcome
+a-well-formed-list-is-refused-exactly-when-there-is-no-plan x zero place blocks after w o =
+    (λ h. absurd (omega arith), λ none. absurd (none (planIn blocks after, o .2 .rows .plan .allowed)))
+a-well-formed-list-is-refused-exactly-when-there-is-no-plan x (suc k) place blocks after w o =
+    let nine = refused-by-nine (reportsOf x) (fastestOf x) (suc k) place (refused-behind (wholeRules x ++ formRules (reportsOf x)) (planRule (reportsOf x) (fastestOf x) ∷ []) (suc k) place w (o .0)) in
+    (λ h plan. not-both (reportsOf x) (fastestOf x) place plan (nine .1), λ none. omega arith)
+
+-- The refusal is then number 9, and its place the least i such that reports 0 to i by themselves have no allowed plan.
+pub and-at-the-first-report-without-one :
+    (x : Input) (number place blocks : ℕ) (after : List ℕ) →
+    WellFormed x → 0 < number → PlanOutcome x number place blocks after →
+    (number ≡ 9) × FirstWithout (reportsOf x) (fastestOf x) place
+unfolding Outcome
+and-at-the-first-report-without-one x zero place blocks after w h o = absurd (omega arith)
+and-at-the-first-report-without-one x (suc k) place blocks after w h o =
+    refused-by-nine (reportsOf x) (fastestOf x) (suc k) place (refused-behind (wholeRules x ++ formRules (reportsOf x)) (planRule (reportsOf x) (fastestOf x) ∷ []) (suc k) place w (o .0))
+
+-- ---- The inspector's three questions
+
+-- where rule 4 is silent, P/Q is positive
+pace-positive : (x : Input) → Passed (wholeRules x ++ formRules (reportsOf x)) → Positive (fastestOf x)
+pace-positive x p = let pace : Quiet (paceRule (x .terms)) = search finding depth 40 in positive (reportsOf x) (x .terms) (good-pace pace) (x .buffer)
+
+-- "Was there a plan that kept every window?" Yes, where the planner gives one: in it every report finishes at or before its deadline, and none runs faster than P/Q.
+-- (That it gives one wherever there is one is `a-well-formed-list-is-refused-exactly-when-there-is-no-plan`, above.)
+pub was-there-a-plan :
+    (x : Input) (place blocks : ℕ) (after : List ℕ) →
+    PlanOutcome x 0 place blocks after →
+    Allowed (reportsOf x) (fastestOf x) (planIn blocks after)
+was-there-a-plan x place blocks after o = an-accepted-list-has-its-blocks x place blocks after o .plan .allowed
+
+-- "When a buoy says there is none, how do you know?" Every plan fails that runs no report faster than P/Q; and the reason can be checked by hand: with all reports at the fastest pace, the report
+-- named still comes late.
+pub how-do-you-know-there-is-none :
+    (x : Input) (place blocks : ℕ) (after : List ℕ) →
+    PlanOutcome x 9 place blocks after →
+    ((T : Paces) → Allowed (reportsOf x) (fastestOf x) T → ⊥) × (whole (reportsOf x .deadline place) ≺ finish (reportsOf x) (steady (fastestOf x)) place)
+unfolding Outcome
+how-do-you-know-there-is-none x place blocks after o =
+    let split = by-another-rule (wholeRules x ++ formRules (reportsOf x)) (planRule (reportsOf x) (fastestOf x) ∷ []) place (search others depth 40) (o .0) in
+    let nine = refused-by-nine (reportsOf x) (fastestOf x) 9 place (split .1) .1 in
+    (λ T a. not-both (reportsOf x) (fastestOf x) place (T, a) nine, first-failure (reportsOf x) (fastestOf x) place (pace-positive x (split .0)) .0 nine .2)
+
+-- "When it hurries, did it need to?" Yes, over the whole list: whatever pace c one measures by, no plan that keeps the list has a smaller sum of operations times
+-- shortfall, not even one that runs faster than P/Q.
+pub did-it-need-to-hurry :
+    (x : Input) (place blocks : ℕ) (after : List ℕ) →
+    PlanOutcome x 0 place blocks after →
+    (rival : Paces) → Keeps (reportsOf x) rival → (c : Fraction) →
+    sumAt (reportsOf x) c (planIn blocks after) ≼ sumAt (reportsOf x) c rival
+did-it-need-to-hurry x place blocks after o rival keeps c =
+    least-sum (reportsOf x) (fastestOf x) (planIn blocks after) rival c (an-accepted-list-has-its-blocks x place blocks after o .plan) keeps
+
+-- ---- Demand 3. "At every threshold pace the sum of operations times shortfall is least among all plans that keep the list." That is the last theorem.
+-- "So no cost that falls in ever flatter straight pieces can be lowered."
+pub no-cost-can-be-lowered :
+    (x : Input) (place blocks : ℕ) (after : List ℕ) →
+    PlanOutcome x 0 place blocks after →
+    (rival : Paces) → Keeps (reportsOf x) rival → (c : Cost) → Flatter (c .pieces) (c .rest) →
+    NoHigher (bill (reportsOf x) c (planIn blocks after)) (bill (reportsOf x) c rival)
+no-cost-can-be-lowered x place blocks after o rival keeps c flat =
+    least-cost (reportsOf x) (fastestOf x) (planIn blocks after) rival c flat (an-accepted-list-has-its-blocks x place blocks after o .plan) keeps

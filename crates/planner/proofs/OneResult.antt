@@ -1,0 +1,86 @@
+-- The promise of `plan` allows one answer and one buffer for each input, and there is one for each.
+-- Assumes nothing.
+use Prim.Native.Nat.{ℕ, zero, suc, _+_, _*_, _/_, _%_, _≤_, _<_}
+use mathlib.Core.Path.{_≡_, refl, sym, _∙_, ap, subst}
+use mathlib.Core.List.{List, _∷_}
+use native.Mathlib.Omega.{arith}
+use lib.ListN.{length, getD}
+use lib.Seq.{ext-getD}
+use Rattle.answers.specs.Numbers.{width}
+use Rattle.trials.specs.Rules.{Rule}
+use Rattle.trials.proofs.Passing.{Passed, Quiet, finding}
+use Rattle.trials.proofs.Single.{Single, Soles, one-refusal, not-refused, singly}
+use Rattle.fraction.specs.Fraction.{Fraction}
+use Rattle.fraction.proofs.Scale.{cases}
+use Rattle.critical.specs.Reports.{Reports, Working}
+use Rattle.critical.specs.Rows.{Row}
+use Rattle.critical.proofs.Theorems.{one-list-of-rows, one-place}
+use Rattle.planner.specs.Offsets.{Input, reportsOf, fastestOf}
+use Rattle.planner.specs.Rules.{operationsRule, planRule, planRules}
+use Rattle.planner.specs.Outcome.{numberAt, rowAt, Written, Outcome, PlanOutcome}
+use Rattle.planner.proofs.Leaving.{working}
+
+-- ---- one refusal
+-- rule 9 is given with one place, as the others are
+pub one-plan-rule : {ℓ : Reports} {f : Fraction} {qs : List Rule} → Soles qs → Soles (planRule ℓ f ∷ qs)
+unfolding Single
+one-plan-rule {ℓ} {f} s = record { single = (one-place ℓ f, s .single) }
+
+pub single-rules : (x : Input) → Soles (planRules x)
+single-rules x = search (singly, one-plan-rule) depth 40
+
+-- ---- one buffer
+-- an accepted list has reports with something to do
+pub works : (x : Input) → Passed (planRules x) → Working (reportsOf x)
+works x p = let work : Quiet (operationsRule (reportsOf x)) = search finding depth 40 in working (reportsOf x) work
+
+-- equal rows have equal numbers in the buffers
+row-numbers : (a b : List ℕ) (k : ℕ) → rowAt a k ≡ rowAt b k → (j : ℕ) → j < width → numberAt a k j ≡ numberAt b k j
+row-numbers a b k e zero h = ap (λ (r : Row). r .first) e
+row-numbers a b k e (suc zero) h = ap (λ (r : Row). r .last) e
+row-numbers a b k e (suc (suc zero)) h = ap (λ (r : Row). r .start) e
+row-numbers a b k e (suc (suc (suc zero))) h = ap (λ (r : Row). r .end) e
+row-numbers a b k e (suc (suc (suc (suc zero)))) h = ap (λ (r : Row). r .operations) e
+row-numbers a b k e (suc (suc (suc (suc (suc j))))) h = absurd (omega arith)
+
+one-buffer : (ℓ : Reports) (f : Fraction) → Working ℓ → (before : List ℕ) (m n : ℕ) (a b : List ℕ) → Written ℓ f before m a → Written ℓ f before n b → (m ≡ n) × (a ≡ b)
+one-buffer ℓ f working before m n a b v w = (e, ext-getD 0 a b (v .as-long ∙ sym (w .as-long)) number)
+  where
+    same : (m ≡ n) × ((k : ℕ) → k < m → rowAt a k ≡ rowAt b k)
+    same = one-list-of-rows ℓ f f m n (rowAt a) (rowAt b) working (v .rows) (w .rows)
+
+    e : m ≡ n
+    e = same .0
+
+    inside : (i : ℕ) → i < width * m → getD a i 0 ≡ getD b i 0
+    inside i h =
+        let k : ℕ = i / width in
+        let j : ℕ = i % width in
+        let p : width * k + j ≡ i = omega arith in
+        subst (λ (z : ℕ). getD a z 0 ≡ getD b z 0) p (row-numbers a b k (same .1 k (omega arith)) j (omega arith))
+
+    number : (i : ℕ) → i < length a → getD a i 0 ≡ getD b i 0
+    number i h = cases i (width * m) (λ l. inside i l) (λ l. v .behind i l ∙ sym (w .behind i (omega (arith, e, l))))
+
+-- by any rules that are given with one place each, and that leave no report without work
+pub one-outcome :
+    (rules : List Rule) (ℓ : Reports) (f : Fraction) (before : List ℕ) → Soles rules → (Passed rules → Working ℓ) →
+    (number place blocks number′ place′ blocks′ : ℕ) (after after′ : List ℕ) →
+    Outcome rules ℓ f before number place blocks after → Outcome rules ℓ f before number′ place′ blocks′ after′ →
+    (number ≡ number′) × (place ≡ place′) × (blocks ≡ blocks′) × (after ≡ after′)
+unfolding Outcome
+one-outcome rules ℓ f before single works zero p b zero p′ b′ a a′ v w =
+    let s = one-buffer ℓ f (works (record { accepted = v .0 })) before b b′ a a′ (v .2) (w .2) in
+    (refl, v .1 ∙ sym (w .1), s .0, s .1)
+one-outcome rules ℓ f before single works zero p b (suc n′) p′ b′ a a′ v w = absurd (not-refused rules (v .0) (suc n′) p′ (w .0))
+one-outcome rules ℓ f before single works (suc n) p b zero p′ b′ a a′ v w = absurd (not-refused rules (w .0) (suc n) p (v .0))
+one-outcome rules ℓ f before single works (suc n) p b (suc n′) p′ b′ a a′ v w =
+    let s = one-refusal rules (single .single) (suc n) p (suc n′) p′ (v .0) (w .0) in
+    (s .0, s .1, v .1 ∙ sym (w .1), v .2 ∙ sym (w .2))
+
+-- The promise allows one answer and one buffer for each input.
+pub one-result :
+    (x : Input) (number place blocks number′ place′ blocks′ : ℕ) (after after′ : List ℕ) →
+    PlanOutcome x number place blocks after → PlanOutcome x number′ place′ blocks′ after′ →
+    (number ≡ number′) × (place ≡ place′) × (blocks ≡ blocks′) × (after ≡ after′)
+one-result x = one-outcome (planRules x) (reportsOf x) (fastestOf x) (x .buffer) (single-rules x) (works x)

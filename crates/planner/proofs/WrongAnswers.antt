@@ -1,0 +1,102 @@
+-- Wrong planners, held against the promise of `plan`: each answer below is one that `PlanOutcome` does not allow. Right answers come first; any other answer of
+-- the same input is then shut out, since the promise allows one result only.
+-- Assumes nothing.
+use Prim.Native.Nat.{ℕ, _*_, _≤_, _<_}
+use mathlib.Core.Path.{_≡_, refl, sym, _∙_, ap}
+use mathlib.Core.List.{List, [], _∷_, _++_}
+use native.Mathlib.Omega.{arith}
+use native.Mathlib.Decide.{ℕ-discrete, decLt}
+use lib.ListN.{length, getD, List·getD-eq-default}
+use Rattle.trials.specs.Rules.{Falls, Accepted}
+use Rattle.trials.proofs.Passing.{Passed}
+use Rattle.trials.proofs.Deciding.{dec-below, dec-equal, dec-not, dec-or, dec-falls, Decided, decides-none, decides-whole, decides-least, least-or-none, passes, passed-by}
+use Rattle.fraction.specs.Fraction.{whole, over, plus, times, later}
+use Rattle.critical.specs.Reports.{start}
+use Rattle.critical.specs.Rows.{planOf, holder, behind, sum, Critical}
+use Rattle.critical.proofs.Tests.{test-critical}
+use Rattle.critical.proofs.Theorems.{not-both}
+use Rattle.planner.specs.Offsets.{Input, reportsOf, fastestOf}
+use Rattle.planner.specs.Rules.{planRule, wholeRules, formRules}
+use Rattle.planner.specs.Outcome.{rowAt, Written, PlanOutcome}
+use Rattle.planner.proofs.Outcomes.{goes-on, plans}
+use Rattle.planner.proofs.SomeResult.{decided}
+use Rattle.planner.proofs.OneResult.{one-result}
+use Rattle.planner.proofs.Demands.{a-refusal-writes-nothing}
+
+-- A planner whose refusal touches the buffer.
+pub no-refusal-touches-the-buffer :
+    (x : Input) (number place blocks : ℕ) (after : List ℕ) →
+    0 < number → (after ≡ x .buffer → ⊥) → PlanOutcome x number place blocks after → ⊥
+no-refusal-touches-the-buffer x number place blocks after h touched o = touched (a-refusal-writes-nothing x number place blocks after h o .2)
+
+-- Where one answer is right, another is not.
+module _ (x : Input) (number place blocks : ℕ) (after : List ℕ) (right : PlanOutcome x number place blocks after) where
+  pub another-number : (n p b : ℕ) (a : List ℕ) → (number ≡ n → ⊥) → PlanOutcome x n p b a → ⊥
+  another-number n p b a h o = h (one-result x number place blocks n p b after a right o .0)
+
+  pub another-block-count : (n p b : ℕ) (a : List ℕ) → (blocks ≡ b → ⊥) → PlanOutcome x n p b a → ⊥
+  another-block-count n p b a h o = h (one-result x number place blocks n p b after a right o .2)
+
+  pub another-buffer : (n p b : ℕ) (a : List ℕ) → (after ≡ a → ⊥) → PlanOutcome x n p b a → ⊥
+  another-buffer n p b a h o = h (one-result x number place blocks n p b after a right o .3)
+
+-- ---- a list that is accepted: rules 1 to 8 are silent, and the rows are those of the plan wanted
+pub accepts : (x : Input) (blocks : ℕ) (after : List ℕ) → Passed (wholeRules x ++ formRules (reportsOf x)) → Written (reportsOf x) (fastestOf x) (x .buffer) blocks after → PlanOutcome x 0 0 blocks after
+unfolding Accepted
+accepts x blocks after p w =
+    let ℓ = reportsOf x in
+    let f = fastestOf x in
+    goes-on ℓ f (x .buffer) (wholeRules x ++ formRules ℓ) (planRule ℓ f ∷ []) 0 0 blocks after p
+    (plans ℓ f (x .buffer) (planRule ℓ f ∷ []) blocks after (record { accepted = (λ place g. not-both ℓ f place (planOf blocks (rowAt after), w .rows .plan .allowed) g, tt) }) w)
+
+-- ---- 01's last starred row, through the promise: three reports, three blocks
+pub crowded : Input
+crowded = record {
+  arrivals = 0 ∷ 0 ∷ 12 ∷ [];
+  deadlines = 4 ∷ 20 ∷ 16 ∷ [];
+  operations = 2 ∷ 2 ∷ 2 ∷ [];
+  terms = record { reference = 0; p = 1; q = 1 };
+  buffer = 7 ∷ 7 ∷ 7 ∷ 7 ∷ 7 ∷ 7 ∷ 7 ∷ 7 ∷ 7 ∷ 7 ∷ 7 ∷ 7 ∷ 7 ∷ 7 ∷ 7 ∷ [];
+}
+
+pub crowded-rows : List ℕ
+crowded-rows = 0 ∷ 0 ∷ 0 ∷ 4 ∷ 2 ∷ 1 ∷ 1 ∷ 4 ∷ 12 ∷ 2 ∷ 2 ∷ 2 ∷ 12 ∷ 16 ∷ 2 ∷ []
+
+-- its rules are silent, which is computed; the rows are those of the plan wanted
+crowded-form : Passed (wholeRules crowded ++ formRules (reportsOf crowded))
+unfolding crowded decided passes Decided dec-below dec-equal dec-not dec-or dec-falls decides-none decides-whole decides-least least-or-none Falls ℕ-discrete decLt
+crowded-form = passed-by (decided crowded) tt
+
+crowded-critical : Critical (reportsOf crowded) (fastestOf crowded) 3 (rowAt crowded-rows)
+unfolding crowded crowded-rows start holder behind sum whole over plus times later
+crowded-critical = test-critical (reportsOf crowded) (fastestOf crowded) 3 (rowAt crowded-rows) .sound tt
+
+pub crowded-right : PlanOutcome crowded 0 0 3 crowded-rows
+unfolding crowded crowded-rows
+crowded-right =
+    accepts crowded 3 crowded-rows crowded-form (record {
+      rows = crowded-critical;
+      as-long = refl;
+      behind = λ i h. List·getD-eq-default crowded-rows 0 h ∙ sym (List·getD-eq-default (crowded .buffer) 0 h);
+    })
+
+-- A planner that refuses everything: no plan, though there is one.
+pub not-refused : PlanOutcome crowded 9 0 0 (crowded .buffer) → ⊥
+not-refused = another-number crowded 0 0 3 crowded-rows crowded-right 9 0 0 (crowded .buffer) (λ e. omega arith)
+
+-- A planner that writes nothing.
+pub not-left-blank : PlanOutcome crowded 0 0 3 (crowded .buffer) → ⊥
+unfolding crowded crowded-rows
+not-left-blank = another-buffer crowded 0 0 3 crowded-rows crowded-right 0 0 3 (crowded .buffer) (λ e. let z : _≡_ {A = ℕ} 0 7 = ap (λ (l : List ℕ). getD l 0 0) e in omega arith)
+
+-- A planner that has one fixed plan: the one report (0, 0, 0, 10, 4) of another row of the table.
+pub not-a-fixed-plan : (a : List ℕ) → PlanOutcome crowded 0 0 1 a → ⊥
+not-a-fixed-plan a = another-block-count crowded 0 0 3 crowded-rows crowded-right 0 0 1 a (λ e. omega arith)
+
+-- One that finds the first block and then lumps the rest together, in two blocks; and one that runs everything at P/Q, in two blocks, (0, 1, 0, 4, 4) and (2, 2, 12, 14, 2).
+pub not-two-blocks : (a : List ℕ) → PlanOutcome crowded 0 0 2 a → ⊥
+not-two-blocks a = another-block-count crowded 0 0 3 crowded-rows crowded-right 0 0 2 a (λ e. omega arith)
+
+-- One that invents a block count.
+pub not-an-invented-count : PlanOutcome crowded 0 0 4 crowded-rows → ⊥
+not-an-invented-count = another-block-count crowded 0 0 3 crowded-rows crowded-right 0 0 4 crowded-rows (λ e. omega arith)
