@@ -11,12 +11,11 @@ use lib.Seq.{take-all, drop-nil, take-length, drop-length, drop-drop, take-appen
 use Rattle.text.specs.Text.{Puts}
 
 -- text copied into the rest of a buffer, and the rest put back
-module _ {text out : List ℕ} {at : ℕ} where
-  pub puts : {r : ℕ} {new : List ℕ} → r ≡ length text → new ≡ take (length text) text ++ drop (length text) (take (length out - at) (drop at out)) → Puts out at text (at + r) (take at out ++ (new ++ drop (length out - at) (drop at out)))
-  puts e n = record {
-    behind = ap (λ (k : ℕ). at + k) e;
-    written = rw (n, ← length-drop at out, take-length (drop at out), drop-length (drop at out), take-length text, append-nil, drop-drop) refl;
-  }
+pub puts : {text out new : List ℕ} {at r : ℕ} → r ≡ length text → new ≡ take (length text) text ++ drop (length text) (take (length out - at) (drop at out)) → Puts out at text (at + r) (take at out ++ (new ++ drop (length out - at) (drop at out)))
+puts {text} {out} {at = at} e n = record {
+  behind = ap (λ (k : ℕ). at + k) e;
+  written = rw (n, ← length-drop at out, take-length (drop at out), drop-length (drop at out), take-length text, append-nil, drop-drop) refl;
+}
 
 -- the same text
 pub puts-as : {out : List ℕ} {at : ℕ} {t u : List ℕ} {r : ℕ} {after : List ℕ} → t ≡ u → Puts out at t r after → Puts out at u r after
@@ -51,19 +50,20 @@ pub record Turns (before : List ℕ) (at : ℕ) (text : ℕ → List ℕ) (room 
   pub short : r ≤ at + room * k
   pub long : length after ≡ length before
 
-pub no-turn : {before : List ℕ} {at : ℕ} {text : ℕ → List ℕ} {room : ℕ} → text 0 ≡ [] → Turns before at text room 0 at before
-no-turn {before} {at} e = record {
-  put = puts-as (sym e) (record { behind = sym (add-zero at); written = rw add-zero (sym (take-append-drop at before)) });
-  short = omega arith;
-  long = refl;
-}
+module _ {before : List ℕ} {at : ℕ} {text : ℕ → List ℕ} {room : ℕ} where
+  pub no-turn : text 0 ≡ [] → Turns before at text room 0 at before
+  no-turn e = record {
+    put = puts-as (sym e) (record { behind = sym (add-zero at); written = rw add-zero (sym (take-append-drop at before)) });
+    short = omega arith;
+    long = refl;
+  }
 
-pub one-turn : {before : List ℕ} {at : ℕ} {text : ℕ → List ℕ} {room k r s : ℕ} {more mid after : List ℕ} → Turns before at text room k r mid → text (suc k) ≡ text k ++ more → Puts mid r more s after → s ≤ r + room → length after ≡ length mid → Turns before at text room (k + 1) s after
-one-turn {k = k} w e p h l = record {
-  put = rw (add-one k) (puts-as (sym e) (puts-then (w .put) p));
-  short = omega (arith, w .short);
-  long = l ∙ w .long;
-}
+  pub one-turn : {k r s : ℕ} {more mid after : List ℕ} → Turns before at text room k r mid → Puts mid r more s after → text (suc k) ≡ text k ++ more → s ≤ r + room → length after ≡ length mid → Turns before at text room (k + 1) s after
+  one-turn {k} w p e h l = record {
+    put = rw (add-one k) (puts-as (sym e) (puts-then (w .put) p));
+    short = omega (arith, w .short);
+    long = l ∙ w .long;
+  }
 
-pub all-turns : {before : List ℕ} {at : ℕ} {text : ℕ → List ℕ} {room k n r : ℕ} {after : List ℕ} → k ≤ n → n ≤ k → Turns before at text room k r after → Turns before at text room n r after
-all-turns {before} {at} {text} {room} {k} {n} {r} {after} a b w = let e : k ≡ n = omega arith in subst (λ (j : ℕ). Turns before at text room j r after) e w
+  pub all-turns : {k n r : ℕ} {after : List ℕ} → k ≤ n → n ≤ k → Turns before at text room k r after → Turns before at text room n r after
+  all-turns {k} {n} {r} {after} a b w = let e : k ≡ n = omega arith in subst (λ (j : ℕ). Turns before at text room j r after) e w

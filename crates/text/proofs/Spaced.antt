@@ -1,11 +1,11 @@
 -- Lines, as a loop puts them: the numbers before the last one with a space behind each, and the last with a line feed.
 -- Assumes nothing.
-use Prim.Native.Nat.{ℕ, zero, suc, _+_, _≤_}
-use mathlib.Core.Path.{_≡_, refl, sym, _∙_, ap}
+use Prim.Native.Nat.{ℕ, zero, suc, _+_}
+use mathlib.Core.Path.{_≡_, refl, sym}
 use mathlib.Core.List.{List, [], _∷_, _++_, append-assoc}
 use native.Mathlib.Omega.{arith}
 use lib.ListN.{length, getD}
-use Rattle.text.specs.Text.{Puts, decimal, line, rowLine, rowLines}
+use Rattle.text.specs.Text.{Puts, decimal, line}
 use Rattle.text.proofs.Putting.{Turns, puts-as, puts-then}
 
 -- the first i numbers, with a space behind each

@@ -1,5 +1,5 @@
 // Puts text into a buffer from a place on, and gives back the place behind it.
-ghost use Prim.Native.Nat.{_+_, _*_, _≤_};
+ghost use Prim.Native.Nat.{_+_, _≤_};
 ghost use mathlib.Core.List.{[], _∷_, _++_};
 ghost use lib.ListN.{length};
 ghost use Rattle.text.specs.Text.{decimal, line, lineRoom, Puts};
@@ -34,7 +34,7 @@ fn put_ended(n: u64, end: u8, out: &mut [u8], at: usize) -> usize
     behind + 1
 }
 
-// A line of numbers.
+// A line of numbers: each has a space behind it, but the last has a line feed.
 pub fn put_line(numbers: &[u64], out: &mut [u8], at: usize) -> usize
     requires { ⌜ 1 ≤ length (now numbers) ⌝ }
     requires { ⌜ at + lineRoom (length (now numbers)) ≤ length (now out) ⌝ }

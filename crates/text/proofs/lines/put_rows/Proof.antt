@@ -33,7 +33,7 @@ unfolding rowLines
 loop-again c =
     let p = c .before .before .put-row in
     let l = c .before .before .before .before .before .loop in
-    (search needs, one-turn (l .inv .1) refl (p .ensures .0) (search needs) (search needs))
+    (search needs, one-turn (l .inv .1) (p .ensures .0) refl (search needs) (search needs))
 
 same-length : tie.Need-same-length Inv-loop μ-loop
 same-length c = search needs

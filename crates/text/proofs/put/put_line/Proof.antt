@@ -43,7 +43,7 @@ unfolding spaced
 loop-again c =
     let p = c .before .before .put-ended in
     let l = c .before .before .before .before .before .before .loop in
-    (search needs, search needs, one-turn (l .inv .2) refl (p .ensures .0) (search needs) (search needs))
+    (search needs, search needs, one-turn (l .inv .2) (p .ensures .0) refl (search needs) (search needs))
 
 mul-put-ended-2 : tie.Need-mul-put-ended-2 Inv-loop μ-loop
 mul-put-ended-2 c = search needs

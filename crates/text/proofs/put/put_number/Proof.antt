@@ -1,6 +1,6 @@
 -- `text::put::put_number` meets its contract: the digits are the number in decimal.
 -- Assumes nothing.
-use Prim.Native.Nat.{_≤_, _<_}
+use Prim.Native.Nat.{_≤_}
 use native.Mathlib.Omega.{arith}
 use Rattle.text.proofs.Decimal.{digits-decimal, at-most-twenty}
 use Rattle.text.proofs.Putting.{puts-as}
