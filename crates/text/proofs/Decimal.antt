@@ -1,7 +1,7 @@
 -- The digits that `io::decimal` gives are the number in decimal.
 -- Assumes nothing.
-use Prim.Native.Nat.{ℕ, zero, suc, _+_, _*_, _-_, _/_, _^_, _≤_, _<_}
-use mathlib.Core.Path.{_≡_, refl, sym, _∙_, ap, subst}
+use Prim.Native.Nat.{ℕ, zero, suc, _*_, _-_, _/_, _^_, _≤_, _<_}
+use mathlib.Core.Path.{_≡_, _∙_, ap, subst}
 use mathlib.Core.Bool.{Bool, true, false, not, cond}
 use mathlib.Core.List.{List}
 use native.Mathlib.Omega.{arith}

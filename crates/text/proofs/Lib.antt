@@ -1,3 +1,5 @@
 pub mod Decimal
 pub mod Putting
+pub mod Spaced
 pub mod PlanText
+pub mod Copying

@@ -1,90 +1,69 @@
--- Text put into a buffer.
+-- Text put into a buffer: the same text, one text after another, and text put by turns.
 -- Assumes nothing.
-use Prim.Native.Nat.{ℕ, suc, _+_, _-_, _≤_}
+use Prim.Native.Nat.{ℕ, zero, suc, _+_, _*_, _-_, _≤_, _<_}
 use mathlib.Core.Path.{_≡_, refl, sym, _∙_, ap, subst}
 use mathlib.Core.List.{List, [], _∷_, _++_, append-nil, append-assoc}
 use native.Mathlib.Omega.{arith}
-use native.Mathlib.Nat.{add-zero}
+use native.Mathlib.Nat.{add-zero, zero-add, suc-add, add-assoc}
 use native.Mathlib.Numerals.{add-one}
-use lib.ListN.{length, take, drop, length-drop, length-append, take-append-drop}
-use lib.Seq.{take-length, drop-length, drop-drop, length-take-le, take-at, drop-at}
-use Rattle.text.specs.Text.{Puts, decimal, line, rowLine, rowLines}
+use lib.ListN.{length, take, drop, set, length-drop, length-append, take-append-drop, drop-of-length-le}
+use lib.Seq.{take-all, drop-nil, take-length, drop-length, drop-drop, take-append-seam, drop-append-seam, set-split}
+use Rattle.text.specs.Text.{Puts}
 
 -- text copied into the rest of a buffer, and the rest put back
-module _ (text out : List ℕ) (at : ℕ) where
-  abbrev rest : List ℕ
-  rest = drop at out
-
-  whole : take (length out - at) rest ≡ rest
-  whole = subst (λ (n : ℕ). take n rest ≡ rest) (length-drop at out) (take-length rest)
-
-  none : drop (length out - at) rest ≡ []
-  none = subst (λ (n : ℕ). drop n rest ≡ []) (length-drop at out) (drop-length rest)
-
-  pub puts : (r : ℕ) (new : List ℕ) → r ≡ length text → new ≡ take (length text) text ++ drop (length text) (take (length out - at) rest) → Puts out at text (at + r) (take at out ++ (new ++ drop (length out - at) rest))
-  puts r new e n = record {
-    behind = ap (λ (k : ℕ). at + k) e;
-    written = rw (none, n, whole, take-length text, append-nil (text ++ drop (length text) rest), drop-drop (length text) at out) refl;
-  }
+pub puts : {text out new : List ℕ} {at r : ℕ} → r ≡ length text → new ≡ take (length text) text ++ drop (length text) (take (length out - at) (drop at out)) → Puts out at text (at + r) (take at out ++ (new ++ drop (length out - at) (drop at out)))
+puts {text} {out} {at = at} e n = record {
+  behind = ap (λ (k : ℕ). at + k) e;
+  written = rw (n, ← length-drop at out, take-length (drop at out), drop-length (drop at out), take-length text, append-nil, drop-drop) refl;
+}
 
 -- the same text
-pub puts-as : (out : List ℕ) (at : ℕ) (t u : List ℕ) (r : ℕ) (after : List ℕ) → t ≡ u → Puts out at t r after → Puts out at u r after
-puts-as out at t u r after e p = subst (λ (z : List ℕ). Puts out at z r after) e p
+pub puts-as : {out : List ℕ} {at : ℕ} {t u : List ℕ} {r : ℕ} {after : List ℕ} → t ≡ u → Puts out at t r after → Puts out at u r after
+puts-as {out} {at} {r = r} {after = after} e p = subst (λ (z : List ℕ). Puts out at z r after) e p
 
--- one text after another
-pub puts-then : (out : List ℕ) (at : ℕ) (t u : List ℕ) (r s : ℕ) (mid after : List ℕ) → at ≤ length out → Puts out at t r mid → Puts mid r u s after → Puts out at (t ++ u) s after
-puts-then out at t u r s mid after h p q = record {
-  behind = q .behind ∙ ap (λ (k : ℕ). k + length u) (p .behind) ∙ total;
-  written = q .written ∙ ap (λ (z : List ℕ). z ++ (u ++ drop (r + length u) mid)) front ∙ ap (λ (z : List ℕ). (take at out ++ t) ++ (u ++ z)) tail ∙ joined;
-}
-  where
-    total : at + length t + length u ≡ at + length (t ++ u)
-    total = let e : length (t ++ u) ≡ length t + length u = length-append t u in omega (arith, e)
+-- one byte
+pub puts-byte : {out : List ℕ} {at byte : ℕ} → at < length out → Puts out at (byte ∷ []) (at + 1) (set out at byte)
+puts-byte {out} {at} {byte} h = record { behind = refl; written = rw (add-one at) (set-split out at byte h) }
 
-    mid-is : mid ≡ (take at out ++ t) ++ drop (at + length t) out
-    mid-is = p .written ∙ sym (append-assoc (take at out) t (drop (at + length t) out))
+-- ---- one text after another
+-- the buffer up to the place behind the text, and from there on
+front : (t : List ℕ) (at : ℕ) (out : List ℕ) → take (at + length t) (take at out ++ (t ++ drop (at + length t) out)) ≡ take at out ++ t
+front t zero out = rw zero-add (take-append-seam t (drop (length t) out))
+front t (suc at) [] = rw (drop-nil, append-nil) (take-all (suc at + length t) t (omega arith))
+front t (suc at) (x ∷ xs) = rw suc-add (ap (λ (z : List ℕ). x ∷ z) (front t at xs))
 
-    long : length (take at out ++ t) ≡ r
-    long = length-append (take at out) t ∙ ap (λ (k : ℕ). k + length t) (length-take-le at out h) ∙ sym (p .behind)
+back : (t : List ℕ) (at : ℕ) (out : List ℕ) → drop (at + length t) (take at out ++ (t ++ drop (at + length t) out)) ≡ drop (at + length t) out
+back t zero out = rw zero-add (drop-append-seam t (drop (length t) out))
+back t (suc at) [] = rw (drop-nil, append-nil) (drop-of-length-le t {i = suc at + length t} (omega arith))
+back t (suc at) (x ∷ xs) = rw suc-add (back t at xs)
 
-    front : take r mid ≡ take at out ++ t
-    front = ap (take r) mid-is ∙ take-at (take at out ++ t) (drop (at + length t) out) r long
-
-    after-front : drop r mid ≡ drop (at + length t) out
-    after-front = ap (drop r) mid-is ∙ drop-at (take at out ++ t) (drop (at + length t) out) r long
-
-    tail : drop (r + length u) mid ≡ drop (at + length (t ++ u)) out
-    tail =
-        sym (drop-drop (length u) r mid) ∙ ap (drop (length u)) after-front ∙ drop-drop (length u) (at + length t) out ∙ ap (λ (k : ℕ). drop k out) total
-
-    joined : (take at out ++ t) ++ (u ++ drop (at + length (t ++ u)) out) ≡ take at out ++ ((t ++ u) ++ drop (at + length (t ++ u)) out)
-    joined =
-        append-assoc (take at out) t (u ++ drop (at + length (t ++ u)) out)
-        ∙ ap (λ (z : List ℕ). take at out ++ z) (sym (append-assoc t u (drop (at + length (t ++ u)) out)))
-
--- ---- lines
--- a number before the rest of its line
-pub puts-more : (out : List ℕ) (at x n m : ℕ) (ns : List ℕ) (r s : ℕ) (mid after : List ℕ) → at ≤ length out → x ≡ n → Puts out at (decimal x ++ (32 ∷ [])) r mid → Puts mid r (line (m ∷ ns)) s after → Puts out at (line (n ∷ m ∷ ns)) s after
-unfolding line
-puts-more out at x n m ns r s mid after h e p q =
-    puts-as out at _ _ s after (append-assoc (decimal n) (32 ∷ []) (line (m ∷ ns)))
-    (puts-then out at (decimal n ++ (32 ∷ [])) (line (m ∷ ns)) r s mid after h (subst (λ (z : ℕ). Puts out at (decimal z ++ (32 ∷ [])) r mid) e p) q)
-
--- the last number
-pub puts-last : (out : List ℕ) (at x n r : ℕ) (after : List ℕ) → x ≡ n → Puts out at (line (x ∷ [])) r after → Puts out at (line (n ∷ [])) r after
-puts-last out at x n r after e p = subst (λ (z : ℕ). Puts out at (line (z ∷ [])) r after) e p
-
--- ---- one line a block
-pub puts-none : (out rows : List ℕ) (at : ℕ) → Puts out at (rowLines rows 0) at out
-unfolding rowLines
-puts-none out rows at = record {
-  behind = sym (add-zero at);
-  written = sym (ap (λ (k : ℕ). take at out ++ drop k out) (add-zero at) ∙ take-append-drop at out);
+pub puts-then : {out : List ℕ} {at : ℕ} {t u : List ℕ} {r s : ℕ} {mid after : List ℕ} → Puts out at t r mid → Puts mid r u s after → Puts out at (t ++ u) s after
+puts-then {out} {at} {t} {u} {mid = mid} p q = record {
+  behind = rw (q .behind, p .behind, length-append t u) (add-assoc at (length t) (length u));
+  written = rw (q .written, p .behind, ← drop-drop (length u) (at + length t) mid, p .written, front t at out, back t at out, drop-drop) (simp (append-assoc, length-append, add-assoc));
 }
 
-pub puts-row : (out rows : List ℕ) (at k r s : ℕ) (mid after : List ℕ) → at ≤ length out → Puts out at (rowLines rows k) r mid → Puts mid r (rowLine rows k) s after → Puts out at (rowLines rows (k + 1)) s after
-unfolding rowLines
-puts-row out rows at k r s mid after h p q = rw (add-one k) (puts-then out at (rowLines rows k) (rowLine rows k) r s mid after h p q)
+-- ---- text put by turns
+-- After k turns the text for k stands in the buffer, and no turn took more than its room.
+pub record Turns (before : List ℕ) (at : ℕ) (text : ℕ → List ℕ) (room k r : ℕ) (after : List ℕ) : Type 0 where
+  pub put : Puts before at (text k) r after
+  pub short : r ≤ at + room * k
+  pub long : length after ≡ length before
 
-pub puts-rows : (out rows : List ℕ) (at k n r : ℕ) (after : List ℕ) → k ≤ n → n ≤ k → Puts out at (rowLines rows k) r after → Puts out at (rowLines rows n) r after
-puts-rows out rows at k n r after a b p = let e : k ≡ n = omega arith in subst (λ (j : ℕ). Puts out at (rowLines rows j) r after) e p
+module _ {before : List ℕ} {at : ℕ} {text : ℕ → List ℕ} {room : ℕ} where
+  pub no-turn : text 0 ≡ [] → Turns before at text room 0 at before
+  no-turn e = record {
+    put = puts-as (sym e) (record { behind = sym (add-zero at); written = rw add-zero (sym (take-append-drop at before)) });
+    short = omega arith;
+    long = refl;
+  }
+
+  pub one-turn : {k r s : ℕ} {more mid after : List ℕ} → Turns before at text room k r mid → Puts mid r more s after → text (suc k) ≡ text k ++ more → s ≤ r + room → length after ≡ length mid → Turns before at text room (k + 1) s after
+  one-turn {k} w p e h l = record {
+    put = rw (add-one k) (puts-as (sym e) (puts-then (w .put) p));
+    short = omega (arith, w .short);
+    long = l ∙ w .long;
+  }
+
+  pub all-turns : {k n r : ℕ} {after : List ℕ} → k ≤ n → n ≤ k → Turns before at text room k r after → Turns before at text room n r after
+  all-turns {k} {n} {r} {after} a b w = let e : k ≡ n = omega arith in subst (λ (j : ℕ). Turns before at text room j r after) e w

@@ -6,8 +6,9 @@ use mathlib.Core.Path.{_≡_}
 use mathlib.Core.Bool.{cond}
 use mathlib.Core.List.{List, [], _∷_, _++_}
 use lib.Dec.{ltb}
-use lib.ListN.{length, getD, take, drop}
+use lib.ListN.{length, take, drop}
 use Rattle.io.specs.Digits.{digits}
+use Rattle.answers.specs.Numbers.{width}
 
 -- How many decimal digits a number has, among the first most + 1.
 unfoldable pub placesUpTo : ℕ → ℕ → ℕ
@@ -29,10 +30,9 @@ pub record Puts (before : List ℕ) (at : ℕ) (text : List ℕ) (r : ℕ) (afte
   pub behind : r ≡ at + length text
   pub written : after ≡ take at before ++ (text ++ drop (at + length text) before)
 
--- A block's line: the five numbers of row k of a buffer.
+-- A block's line: the numbers of row k of a buffer.
 abbrev pub rowLine : List ℕ → ℕ → List ℕ
-rowLine rows k =
-    line (getD rows (5 * k) 0 ∷ getD rows (5 * k + 1) 0 ∷ getD rows (5 * k + 2) 0 ∷ getD rows (5 * k + 3) 0 ∷ getD rows (5 * k + 4) 0 ∷ [])
+rowLine rows k = line (take width (drop (width * k) rows))
 
 -- One line a block, for the first so many blocks.
 unfoldable pub rowLines : List ℕ → ℕ → List ℕ
@@ -47,11 +47,19 @@ firstLine number place blocks = 112 ∷ 108 ∷ 97 ∷ 110 ∷ 32 ∷ line (numb
 abbrev pub planText : ℕ → ℕ → ℕ → List ℕ → List ℕ
 planText number place blocks rows = firstLine number place blocks ++ rowLines rows blocks
 
+-- Room for a line of n numbers: each has at most 20 digits, and a space or a line feed behind it.
+abbrev pub lineRoom : ℕ → ℕ
+lineRoom n = 21 * n
+
+-- Room for the text of a plan: its word, three numbers, and one line a block.
+abbrev pub textRoom : ℕ → ℕ
+textRoom blocks = 5 + lineRoom 3 + lineRoom width * blocks
+
 -- What a plan's text needs: at most 1,024 blocks, their rows, and a buffer with room for the longest numbers.
 pub record Room (blocks : ℕ) (rows out : List ℕ) : Type 0 where
   pub few : blocks ≤ 1024
-  pub rows-long : 5 * blocks ≤ length rows
-  pub out-long : 68 + 105 * blocks ≤ length out
+  pub rows-long : width * blocks ≤ length rows
+  pub out-long : textRoom blocks ≤ length out
 
 -- With room, the text stands at the front of the buffer, the bytes behind it stay as they were, and its length comes back; without, 0 comes back and nothing is written.
 pub record TextIs (number place blocks : ℕ) (rows before : List ℕ) (r : ℕ) (after : List ℕ) : Type 0 where

@@ -1,46 +1,60 @@
 // The lines of a plan, put into a buffer from a place on; the place behind them comes back.
 use crate::put;
+use answers::Row;
 ghost use mathlib.Core.Path.{_≡_};
 ghost use Prim.Native.Nat.{_+_, _*_, _≤_};
-ghost use lib.ListN.{length};
-ghost use Rattle.text.specs.Text.{firstLine, rowLine, rowLines, Puts};
+ghost use lib.ListN.{length, take, drop};
+ghost use Rattle.answers.specs.Numbers.{width};
+ghost use Rattle.text.specs.Text.{firstLine, rowLine, rowLines, lineRoom, textRoom, Puts};
 
 // The first line: its word, and three numbers.
 pub fn put_first(number: u64, place: u64, blocks: u64, out: &mut [u8], at: usize) -> usize
-    requires { ⌜ at + 68 ≤ length (now out) ⌝ }
+    requires { ⌜ at + textRoom 0 ≤ length (now out) ⌝ }
     ensures { λ r. ⌜ Puts (now (out .entry)) at (firstLine number place blocks) r (now (out .exit)) ⌝ }
-    ensures { λ r. ⌜ r ≤ at + 68 ⌝ }
+    ensures { λ r. ⌜ r ≤ at + textRoom 0 ⌝ }
 {
     let word = put::put(b"plan ", out, at);
-    let first = put::put_spaced(number, out, word);
-    let second = put::put_spaced(place, out, first);
-    put::put_last(blocks, out, second)
+    put::put_line(&[number, place, blocks], out, word)
 }
 
+// One number in 64 bits: a function of its own, since the prover does not follow a cast of a
+// slice's number.
 fn wide(n: u32) -> u64
     ensures { λ r. ⌜ r ≡ n ⌝ }
 {
     n as u64
 }
 
+// The numbers of rows from a place on, as many as out has: a line takes them in 64 bits.
+fn widen(rows: &[u32], from: usize, out: &mut [u64])
+    requires { ⌜ from + length (now out) ≤ length (now rows) ⌝ }
+    ensures { λ _. ⌜ now (out .exit) ≡ take (length (now (out .entry))) (drop from (now (rows .entry))) ⌝ }
+{
+    let mut i = 0;
+    while i < out.len() {
+        out[i] = wide(rows[from + i]);
+        i += 1;
+    }
+}
+
 // The line of row k.
 fn put_row(rows: &[u32], k: usize, out: &mut [u8], at: usize) -> usize
-    requires { ⌜ (5 * k + 5 ≤ length (now rows)) × (at + 105 ≤ length (now out)) ⌝ }
+    requires { ⌜ width * k + width ≤ length (now rows) ⌝ }
+    requires { ⌜ at + lineRoom width ≤ length (now out) ⌝ }
     ensures { λ r. ⌜ Puts (now (out .entry)) at (rowLine (now (rows .entry)) k) r (now (out .exit)) ⌝ }
-    ensures { λ r. ⌜ r ≤ at + 105 ⌝ }
+    ensures { λ r. ⌜ r ≤ at + lineRoom width ⌝ }
 {
-    let first = put::put_spaced(wide(rows[5 * k]), out, at);
-    let second = put::put_spaced(wide(rows[5 * k + 1]), out, first);
-    let third = put::put_spaced(wide(rows[5 * k + 2]), out, second);
-    let fourth = put::put_spaced(wide(rows[5 * k + 3]), out, third);
-    put::put_last(wide(rows[5 * k + 4]), out, fourth)
+    let mut numbers = [0u64; Row::WIDTH];
+    widen(rows, Row::WIDTH * k, &mut numbers);
+    put::put_line(&numbers, out, at)
 }
 
 // One line a block.
 pub fn put_rows(rows: &[u32], blocks: usize, out: &mut [u8], at: usize) -> usize
-    requires { ⌜ (5 * blocks ≤ length (now rows)) × (at + 105 * blocks ≤ length (now out)) ⌝ }
+    requires { ⌜ width * blocks ≤ length (now rows) ⌝ }
+    requires { ⌜ at + lineRoom width * blocks ≤ length (now out) ⌝ }
     ensures { λ r. ⌜ Puts (now (out .entry)) at (rowLines (now (rows .entry)) blocks) r (now (out .exit)) ⌝ }
-    ensures { λ r. ⌜ r ≤ at + 105 * blocks ⌝ }
+    ensures { λ r. ⌜ r ≤ at + lineRoom width * blocks ⌝ }
 {
     let mut behind = at;
     let mut k = 0;

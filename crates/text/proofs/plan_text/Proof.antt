@@ -7,17 +7,13 @@ use Rattle.text.proofs.plan_text.Statement.{statement}
 use Rattle.text.proofs.plan_text.Tie as tie
 
 returns : tie.Need-returns
-returns c =
-    let a = c .before .before .before .args in
-    (says-nothing (a .number) (a .place) (a .blocks) (a .rows .now) (a .out .now) (λ room. omega (arith, c .if1 .taken, room .few)), search needs)
+returns c = (says-nothing (λ room. omega arith), search needs)
 
 mul-if2 : tie.Need-mul-if2
 mul-if2 c = search needs
 
 returns-2 : tie.Need-returns-2
-returns-2 c =
-    let a = c .before .before .before .before .args in
-    (says-nothing (a .number) (a .place) (a .blocks) (a .rows .now) (a .out .now) (λ room. omega (arith, c .if2 .taken, room .rows-long)), search needs)
+returns-2 c = (says-nothing (λ room. omega arith), search needs)
 
 mul-if3 : tie.Need-mul-if3
 mul-if3 c = search needs
@@ -26,9 +22,7 @@ add-if3 : tie.Need-add-if3
 add-if3 c = search needs
 
 returns-3 : tie.Need-returns-3
-returns-3 c =
-    let a = c .before .before .before .before .before .args in
-    (says-nothing (a .number) (a .place) (a .blocks) (a .rows .now) (a .out .now) (λ room. omega (arith, c .if3 .taken, room .out-long)), search needs)
+returns-3 c = (says-nothing (λ room. omega arith), search needs)
 
 put-first-requires : tie.Need-put-first-requires
 put-first-requires c κs = search needs
@@ -41,10 +35,8 @@ same-length c = search needs
 
 returns-4 : tie.Need-returns-4
 returns-4 c =
-    let a = c .before .before .before .before .before .before .before .before .before .before .before .before .before .args in
-    let p = c .before .before .before .before .before .before .put-first in
-    let q = c .before .before .put-rows in
-    (says (a .number) (a .place) (a .blocks) (a .rows .now) (a .out .now) (p .result) (q .result) (p .last .1 .1 .1 .0) (q .last .1 .1 .0) (record { few = c .before .before .before .before .before .before .before .before .before .before .if1 .left; rows-long = c .before .before .before .before .before .before .before .before .before .if2 .left; out-long = c .before .before .before .before .before .before .before .before .if3 .left }) (p .ensures .0) (q .ensures .0), search needs)
+    let first = c .before .before .before .before .before .before .put-first in
+    (says (search needs) (first .ensures .0) (c .before .before .put-rows .ensures .0), search needs)
 
 pub plan-text-spec : {M : Type 1} → statement M
 plan-text-spec =

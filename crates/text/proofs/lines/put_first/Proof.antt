@@ -1,10 +1,6 @@
--- `text::lines::put_first` meets its contract: the word, and three numbers.
+-- `text::lines::put_first` meets its contract: the word, and the line of three numbers.
 -- Assumes nothing.
-use mathlib.Core.Path.{refl}
-use mathlib.Core.List.{[], _∷_}
-use native.Mathlib.Omega.{arith}
-use Rattle.text.specs.Text.{line}
-use Rattle.text.proofs.Putting.{puts-then, puts-more}
+use Rattle.text.proofs.Putting.{puts-then}
 use borrow.Author.Needs.{needs}
 use Rattle.text.proofs.lines.put_first.Statement.{statement}
 use Rattle.text.proofs.lines.put_first.Tie as tie
@@ -15,30 +11,21 @@ slice-aggregate-put c = search needs
 put-requires : tie.Need-put-requires
 put-requires c κs = search needs
 
-put-spaced-requires : tie.Need-put-spaced-requires
-put-spaced-requires c κs = search needs
+slice-aggregate-put-line : tie.Need-slice-aggregate-put-line
+slice-aggregate-put-line c = search needs
 
-put-spaced-requires-2 : tie.Need-put-spaced-requires-2
-put-spaced-requires-2 c κs = search needs
-
-put-last-requires : tie.Need-put-last-requires
-put-last-requires c κs = search needs
+put-line-requires : tie.Need-put-line-requires
+put-line-requires c κs = search needs
 
 same-length : tie.Need-same-length
 same-length c = search needs
 
+-- the word, where the line is put behind it
+abbrev word : tie.After-put-line → tie.After-put
+word c = c .before .before .before .before .before
+
 returns : tie.Need-returns
-returns c =
-    let a = c .before .before .before .before .before .before .before .before .before .before .before .before .before .before .before .before .before .before .args in
-    let w = c .before .before .before .before .before .before .before .before .before .before .before .before .before .before .put in
-    let p = c .before .before .before .before .before .before .before .before .before .before .put-spaced in
-    let q = c .before .before .before .before .before .before .put-spaced2 in
-    let l = c .before .before .put-last in (
-      puts-then (a .out .now) (a .at) (112 ∷ 108 ∷ 97 ∷ 110 ∷ 32 ∷ []) (line (a .number ∷ a .place ∷ a .blocks ∷ [])) (w .result) (l .result) (w .last .1 .0) (l .last .1 .0) (search needs) (w .ensures)
-          (puts-more (w .last .1 .0) (w .result) (a .number) (a .number) (a .place) (a .blocks ∷ []) (p .result) (l .result) (p .last .1 .0) (l .last .1 .0) (search needs) refl (p .ensures .0)
-          (puts-more (p .last .1 .0) (p .result) (a .place) (a .place) (a .blocks) [] (q .result) (l .result) (q .last .1 .0) (l .last .1 .0) (search needs) refl (q .ensures .0) (l .ensures .0))),
-      omega (arith, w .ensures .behind, p .ensures .1, q .ensures .1, l .ensures .1),
-    )
+returns c = let l = c .before .before in (puts-then (word l .put .ensures) (l .put-line .ensures .0), search needs)
 
 pub put-first-spec : {M : Type 1} → statement M
 put-first-spec =
@@ -46,8 +33,7 @@ put-first-spec =
     (tie.spec
     slice-aggregate-put
     put-requires
-    put-spaced-requires
-    put-spaced-requires-2
-    put-last-requires
+    slice-aggregate-put-line
+    put-line-requires
     same-length
     returns)

@@ -24,9 +24,7 @@ same-length : tie.Need-same-length
 same-length c = search needs
 
 returns : tie.Need-returns
-returns c =
-    let a = c .before .before .before .before .before .before .args in
-    puts (a .text .now) (a .out .now) (a .at) (c .before .before .copy .result) (c .before .before .copy .last .1 .0) (c .before .before .copy .ensures .0) (c .before .before .copy .ensures .1)
+returns c = let k = c .before .before .copy in puts (k .ensures .0) (k .ensures .1)
 
 pub put-spec : {M : Type 1} → statement M
 put-spec =

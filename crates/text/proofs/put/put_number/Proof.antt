@@ -1,6 +1,6 @@
 -- `text::put::put_number` meets its contract: the digits are the number in decimal.
 -- Assumes nothing.
-use Prim.Native.Nat.{_≤_, _<_}
+use Prim.Native.Nat.{_≤_}
 use native.Mathlib.Omega.{arith}
 use Rattle.text.proofs.Decimal.{digits-decimal, at-most-twenty}
 use Rattle.text.proofs.Putting.{puts-as}
@@ -17,24 +17,21 @@ array-share-prefix-digits c = search needs
 slice-aggregate-put : tie.Need-slice-aggregate-put
 slice-aggregate-put c = search needs
 
+-- the number has at most 20 digits
+few : (c : tie.After-decimal) → c .decimal .result ≤ 20
+few c = at-most-twenty _ _ (c .before .before .before .fits .n .fits) (c .decimal .ensures .1 .0)
+
 put-requires : tie.Need-put-requires
-put-requires c κs =
-    let d = c .before .before .decimal in
-    let n = c .before .before .before .before .before .args .n in
-    let small : n < 18446744073709551616 = search needs in
-    let few : d .result ≤ 20 = at-most-twenty n (d .result) small (d .ensures .1 .0) in
-    omega (arith, d .ensures .0 .1, few, c .before .before .before .before .before .pre)
+put-requires c κs = let d = c .before .before in omega (arith, few d, d .decimal .ensures .0 .1)
 
 same-length : tie.Need-same-length
 same-length c = search needs
 
 returns : tie.Need-returns
 returns c =
-    let a = c .before .before .before .before .before .before .before .before .args in
-    let d = c .before .before .before .before .before .decimal in
-    let small : a .n < 18446744073709551616 = search needs in
-    let few : d .result ≤ 20 = at-most-twenty (a .n) (d .result) small (d .ensures .1 .0) in
-    (puts-as (a .out .now) (a .at) _ _ (c .before .before .put .result) (c .before .before .put .last .1 .0) (digits-decimal (a .n) (d .result) _ (d .ensures .1 .0) (d .ensures .1 .1)) (c .before .before .put .ensures), omega (arith, c .before .before .put .ensures .behind, d .ensures .0 .1, few))
+    let d = c .before .before .before .before .before in
+    let p = c .before .before .put in
+    (puts-as (digits-decimal _ _ _ (d .decimal .ensures .1 .0) (d .decimal .ensures .1 .1)) (p .ensures), omega (arith, few d, p .ensures .behind, d .decimal .ensures .0 .1))
 
 pub put-number-spec : {M : Type 1} → statement M
 put-number-spec =
