@@ -8,15 +8,18 @@ use lib.ListN.{length, getD}
 use lib.Seq.{ext-getD}
 use Rattle.answers.specs.Numbers.{width}
 use Rattle.trials.specs.Rules.{Rule}
+use Rattle.trials.specs.Tries.{After}
+use Rattle.trials.specs.declared.Verdict.{Verdict}
 use Rattle.trials.proofs.Passing.{Passed, Quiet, finding}
-use Rattle.trials.proofs.Single.{Single, Soles, one-refusal, not-refused, singly}
+use Rattle.trials.proofs.Single.{Single, Soles, one-refusal, not-refused, one-after, singly}
 use Rattle.fraction.specs.Fraction.{Fraction}
 use Rattle.fraction.proofs.Scale.{cases}
 use Rattle.critical.specs.Reports.{Reports, Working}
 use Rattle.critical.specs.Rows.{Row}
 use Rattle.critical.proofs.Theorems.{one-list-of-rows, one-place}
 use Rattle.planner.specs.Offsets.{Input, reportsOf, fastestOf}
-use Rattle.planner.specs.Rules.{operationsRule, planRule, planRules}
+use Rattle.planner.specs.declared.Roll.{Roll}
+use Rattle.planner.specs.Rules.{countRules, operationsRule, planRule, planRules}
 use Rattle.planner.specs.Outcome.{numberAt, rowAt, Written, Outcome, PlanOutcome}
 use Rattle.planner.proofs.Leaving.{working}
 
@@ -28,6 +31,12 @@ one-plan-rule {ℓ} {f} s = record { single = (one-place ℓ f, s .single) }
 
 pub single-rules : (x : Input) → Soles (planRules x)
 single-rules x = search (singly, one-plan-rule) depth 40
+
+-- The promise of `count_rules` allows one verdict.
+pub one-count-verdict :
+    (so-far : Verdict) (arrivals deadlines operations : ℕ) (terms : Roll) (room : ℕ) (r s : Verdict) →
+    After so-far (countRules arrivals deadlines operations terms room) r → After so-far (countRules arrivals deadlines operations terms room) s → r ≡ s
+one-count-verdict so-far arrivals deadlines operations terms room r s = one-after so-far r s (search singly)
 
 -- ---- one buffer
 -- an accepted list has reports with something to do

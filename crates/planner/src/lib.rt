@@ -5,9 +5,10 @@ use answers::Answer;
 use trials::Verdict;
 
 mod blocks;
+pub mod counts;
+mod forms;
 mod pass;
 mod readings;
-mod rules;
 mod search;
 mod settle;
 
@@ -71,7 +72,7 @@ pub fn plan(
 ) -> Answer
     ensures { λ r. ⌜ PlanOutcome (record { arrivals = now (arrivals .entry); deadlines = now (deadlines .entry); operations = now (operations .entry); terms = terms; buffer = now (rows .entry) }) (numberOf r) (placeOf r) (blocksOf r) (now (rows .exit)) ⌝ }
 {
-    let tried = rules::counts(
+    let tried = counts::count_rules(
         Verdict::Silent,
         arrivals.len(),
         deadlines.len(),

@@ -1,9 +1,9 @@
 // What is left once the whole list is in order: the rules of its reports, on offsets, and the plan.
 use crate::Roll;
 use crate::blocks;
+use crate::forms;
 use crate::pass;
 use crate::readings;
-use crate::rules;
 use answers::Answer;
 use answers::Refusal;
 use trials::Verdict;
@@ -52,7 +52,7 @@ pub fn settle(
     requires pace { ⌜ Paced terms ⌝ }
     ensures { λ r. ⌜ Settles (reportRules (listOf (now (arrivals .entry)) (now (deadlines .entry)) (now (operations .entry))) (paceOf terms)) (listOf (now (arrivals .entry)) (now (deadlines .entry)) (now (operations .entry))) terms (now (rows .entry)) r (now (rows .exit)) ⌝ }
 {
-    let tried = rules::forms(Verdict::Silent, arrivals, deadlines, operations);
+    let tried = forms::form_rules(Verdict::Silent, arrivals, deadlines, operations);
     if let Verdict::Given(refusal) = tried {
         return Answer::Refused(refusal);
     }

@@ -1,15 +1,17 @@
 -- A list of rules gives one refusal at most; and the searches and tests that rules are decided by have one result each.
 -- Assumes nothing.
 use Prim.Native.Nat.{ℕ, _≤_, _<_}
-use mathlib.Core.Path.{_≡_, refl, sym, _∙_}
+use mathlib.Core.Path.{_≡_, refl, sym, _∙_, ap}
 use mathlib.Core.Bool.{Bool, true, false}
 use mathlib.Core.List.{List, [], _∷_}
 use mathlib.Core.Logic.{inl, inr}
 use native.Mathlib.Omega.{arith}
 use native.Mathlib.Decide.{decLt}
 use Rattle.trials.specs.Rules.{Rule, rule, Whole, Least, Refused, Accepted}
-use Rattle.trials.specs.Tries.{Tells, FirstOr, OrIf}
+use Rattle.trials.specs.Tries.{Tells, FirstOr, OrIf, Refuses, AfterIs, After}
+use Rattle.answers.specs.declared.Refusal.{Refusal}
 use Rattle.trials.specs.declared.Verdict.{Verdict}
+use Rattle.trials.specs.declared.Verdict.the-variants.{Silent, Given}
 
 -- each rule of a list is given with one place only
 unfoldable pub Single : List Rule → Type 0
@@ -71,6 +73,27 @@ one-test P true true s t = refl
 one-test P true false s t = absurd (t .no refl (s .yes refl))
 one-test P false true s t = absurd (s .no refl (t .yes refl))
 one-test P false false s t = refl
+
+-- one refusal
+refusal : ℕ → ℕ → Refusal
+refusal number place = record { number = number; place = place }
+
+pub same-refusal : {a b : Refusal} → a .number ≡ b .number → a .place ≡ b .place → a ≡ b
+unfolding refusal
+same-refusal {a} {b} e e′ = ap (λ (k : ℕ). refusal k (a .place)) e ∙ ap (refusal (b .number)) e′
+
+pub one-refuses : {rules : List Rule} {a b : Refusal} → Soles rules → Refuses rules a → Refuses rules b → a ≡ b
+one-refuses {rules} {a} {b} s v w =
+    let e = one-refusal rules (s .single) (a .number) (a .place) (b .number) (b .place) (v .refused) (w .refused) in same-refusal (e .0) (e .1)
+
+-- The promise of a group of rules allows one verdict.
+pub one-after : {rules : List Rule} (v r s : Verdict) → Soles rules → After v rules r → After v rules s → r ≡ s
+unfolding AfterIs
+one-after (Given a) r s single p q = p .is ∙ sym (q .is)
+one-after Silent Silent Silent single p q = refl
+one-after {rules} Silent Silent (Given b) single p q = absurd (not-refused rules (p .is) (b .number) (b .place) (q .is .refused))
+one-after {rules} Silent (Given a) Silent single p q = absurd (not-refused rules (q .is) (a .number) (a .place) (p .is .refused))
+one-after Silent (Given a) (Given b) single p q = ap Given (one-refuses single (p .is) (q .is))
 
 -- The promise of `or_if` allows one verdict.
 pub one-verdict : (v : Verdict) (b : Bool) (number place : ℕ) (r s : Verdict) → OrIf v b number place r → OrIf v b number place s → r ≡ s

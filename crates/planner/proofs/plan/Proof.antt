@@ -11,7 +11,7 @@ use Rattle.planner.proofs.plan.Statement.{statement}
 use Rattle.planner.proofs.plan.Tie as tie
 
 -- ---- where the rules of the whole list have been tried: what was handed in, and the rules that follow
-abbrev input : tie.After-counts → Input
+abbrev input : tie.After-count-rules → Input
 input c =
     let a = c .before .before .before .before .before .args in
     record { arrivals = a .arrivals .now; deadlines = a .deadlines .now; operations = a .operations .now; terms = a .terms; buffer = a .rows .now }
@@ -20,11 +20,11 @@ returns : tie.Need-returns
 returns c =
     let t = c .before .before .before in
     let x = input t in
-    hands-up (reportsOf x) (fastestOf x) (x .buffer) (wholeRules x) (reportRules (reportsOf x) (fastestOf x)) (refuses (t .counts .ensures) (c .before .tried .given .1))
+    hands-up (reportsOf x) (fastestOf x) (x .buffer) (wholeRules x) (reportRules (reportsOf x) (fastestOf x)) (refuses (t .count-rules .ensures) (c .before .tried .given .1))
 
 -- where they are silent
 quiet : (c : tie.After-enum-told) → Passed (wholeRules (input (c .before .before)))
-quiet c = passed (c .before .before .counts .ensures) (c .enum-told .given .1)
+quiet c = passed (c .before .before .count-rules .ensures) (c .enum-told .given .1)
 
 settle-readings-requires : tie.Need-settle-readings-requires
 settle-readings-requires c κs =

@@ -14,36 +14,36 @@ use Rattle.planner.proofs.settle.settle.Statement.{statement}
 use Rattle.planner.proofs.settle.settle.Tie as tie
 
 -- ---- where the rules have been tried
-abbrev entry : tie.After-forms → tie.Start
+abbrev entry : tie.After-form-rules → tie.Start
 entry c = c .before .before .before .before .before
 
-abbrev list : tie.After-forms → Reports
+abbrev list : tie.After-form-rules → Reports
 list c = let a = entry c .args in listOf (a .arrivals .now) (a .deadlines .now) (a .operations .now)
 
-abbrev pace : tie.After-forms → Fraction
+abbrev pace : tie.After-form-rules → Fraction
 pace c = paceOf (entry c .args .terms)
 
-abbrev last : tie.After-forms → List Rule
+abbrev last : tie.After-form-rules → List Rule
 last c = planRule (list c) (pace c) ∷ []
 
 returns : tie.Need-returns
 returns c =
     let t = c .before .before .before in
-    hands-up (list t) (pace t) (entry t .args .rows .now) (formRules (list t)) (last t) (refuses (t .forms .ensures) (c .before .tried .given .1))
+    hands-up (list t) (pace t) (entry t .args .rows .now) (formRules (list t)) (last t) (refuses (t .form-rules .ensures) (c .before .tried .given .1))
 
 plan-fair-requires : tie.Need-plan-fair-requires
 plan-fair-requires c κs =
     let t = c .before .before .before in
     let s = entry t in
     let a = s .args in
-    (fair-lists (a .arrivals .now) (a .deadlines .now) (a .operations .now) (a .rows .now) (s .pre .0) (passed (t .forms .ensures) (c .before .enum-told .given .1)), (s .pre .0 .room, s .pre .1))
+    (fair-lists (a .arrivals .now) (a .deadlines .now) (a .operations .now) (a .rows .now) (s .pre .0) (passed (t .form-rules .ensures) (c .before .enum-told .given .1)), (s .pre .0 .room, s .pre .1))
 
 returns-2 : tie.Need-returns-2
 returns-2 c =
     let p = c .before .before in
     let told = p .before .before in
     let t = told .before .before in
-    goes-on (list t) (pace t) (entry t .args .rows .now) (formRules (list t)) (last t) _ _ _ _ (passed (t .forms .ensures) (told .enum-told .given .1)) (p .plan-fair .ensures)
+    goes-on (list t) (pace t) (entry t .args .rows .now) (formRules (list t)) (last t) _ _ _ _ (passed (t .form-rules .ensures) (told .enum-told .given .1)) (p .plan-fair .ensures)
 
 pub settle-spec : {M : Type 1} → statement M
 settle-spec =

@@ -1,12 +1,12 @@
--- `planner::rules::forms` meets its contract: one search for all its rules, in whatever order they stand.
+-- `planner::forms::form_rules` meets its contract: one search for all its rules, in whatever order they stand.
 -- Assumes nothing.
 use borrow.Author.Needs.{needs}
 use Rattle.trials.proofs.Trying.{trying}
-use Rattle.planner.proofs.rules.forms.Statement.{statement}
-use Rattle.planner.proofs.rules.forms.Tie as tie
+use Rattle.planner.proofs.forms.form_rules.Statement.{statement}
+use Rattle.planner.proofs.forms.form_rules.Tie as tie
 
-pub forms-spec : {M : Type 1} → statement M
-forms-spec =
+pub form-rules-spec : {M : Type 1} → statement M
+form-rules-spec =
     tie.close
     (tie.spec
     (λ c κs. search needs)

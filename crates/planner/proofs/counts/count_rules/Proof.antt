@@ -1,12 +1,12 @@
--- `planner::rules::counts` meets its contract: one search for all its rules, in whatever order they stand.
+-- `planner::counts::count_rules` meets its contract: one search for all its rules, in whatever order they stand.
 -- Assumes nothing.
 use borrow.Author.Needs.{needs}
 use Rattle.trials.proofs.Trying.{trying}
-use Rattle.planner.proofs.rules.counts.Statement.{statement}
-use Rattle.planner.proofs.rules.counts.Tie as tie
+use Rattle.planner.proofs.counts.count_rules.Statement.{statement}
+use Rattle.planner.proofs.counts.count_rules.Tie as tie
 
-pub counts-spec : {M : Type 1} → statement M
-counts-spec =
+pub count-rules-spec : {M : Type 1} → statement M
+count-rules-spec =
     tie.close
     (tie.spec
     (λ c κs. search needs)

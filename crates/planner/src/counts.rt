@@ -1,6 +1,5 @@
-// Rules 1 to 8, tried in their order (specs/Rules.antt): each group is handed the verdict of the rules
+// Rules 1 to 4, tried in their order (specs/Rules.antt): the group is handed the verdict of the rules
 // before it and gives that of all of them. Two lines a rule: whether it is given, and or_if.
-use crate::Report;
 use crate::Roll;
 use answers::Refusal;
 use answers::Row;
@@ -9,13 +8,10 @@ use trials::or_if;
 ghost use mathlib.Core.Path.{_≡_};
 ghost use mathlib.Core.Logic.{_⊎_};
 ghost use Prim.Native.Nat.{_*_, _<_};
-ghost use lib.ListN.{length};
 ghost use Rattle.answers.specs.Numbers.{width};
 ghost use Rattle.trials.specs.Rules.{Outside};
 ghost use Rattle.trials.specs.Tries.{Tells, After};
-ghost use Rattle.critical.specs.Reports.{listOf};
-ghost use Rattle.planner.specs.Rules.{countRules, formRules};
-ghost use Rattle.planner.specs.Inside.{Even};
+ghost use Rattle.planner.specs.Rules.{countRules};
 
 // Whether three lists differ in length.
 fn uneven(arrivals: usize, deadlines: usize, operations: usize) -> bool
@@ -45,7 +41,7 @@ fn bad_pace(terms: Roll) -> bool
 }
 
 // Rules 1 to 4, of how long the lists and the row buffer are, and of the terms.
-pub fn counts(
+pub fn count_rules(
     so_far: Verdict,
     arrivals: usize,
     deadlines: usize,
@@ -62,20 +58,4 @@ pub fn counts(
     let v = or_if(v, given, Refusal::SHORT_BUFFER, 0);
     let given = bad_pace(terms);
     or_if(v, given, Refusal::BAD_PACE, 0)
-}
-
-// Rules 5 to 8, of offsets and operations, each over the whole list before the next.
-pub fn forms(so_far: Verdict, arrivals: &[u32], deadlines: &[u32], operations: &[u32]) -> Verdict
-    requires { ⌜ Even (now arrivals) (now deadlines) (now operations) ⌝ }
-    ensures { λ r. ⌜ After «so_far» (formRules (listOf (now (arrivals .entry)) (now (deadlines .entry)) (now (operations .entry)))) r ⌝ }
-{
-    let n = arrivals.len();
-    let at = trials::first_outside(operations, 1, Report::OPERATIONS);
-    let v = or_if(so_far, at < n, Refusal::BAD_OPERATIONS, at);
-    let at = trials::first_above(arrivals, Report::OFFSET);
-    let v = or_if(v, at < n, Refusal::BAD_ARRIVAL, at);
-    let at = trials::first_above(deadlines, Report::OFFSET);
-    let v = or_if(v, at < n, Refusal::BAD_DEADLINE, at);
-    let at = trials::first_fall(arrivals);
-    or_if(v, at < n, Refusal::ARRIVAL_FALLS, at)
 }

@@ -1,9 +1,9 @@
--- `planner::rules::uneven` meets its contract.
+-- `planner::counts::uneven` meets its contract.
 -- Assumes nothing.
 use borrow.Author.Needs.{needs}
 use Rattle.trials.proofs.Trying.{tells-first, tells-second, tells-different}
-use Rattle.planner.proofs.rules.uneven.Statement.{statement}
-use Rattle.planner.proofs.rules.uneven.Tie as tie
+use Rattle.planner.proofs.counts.uneven.Statement.{statement}
+use Rattle.planner.proofs.counts.uneven.Tie as tie
 
 pub uneven-spec : {M : Type 1} → statement M
 uneven-spec = tie.close (tie.spec (λ c. tells-first (c .if1 .taken)) (λ c. tells-second (λ h. h (c .if1 .left)) tells-different))
