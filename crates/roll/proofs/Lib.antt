@@ -1,5 +1,5 @@
-pub mod FileRules
 pub mod Columns
+pub mod FileRules
 pub mod Rolls
 pub mod OneResult
 pub mod HandsBack

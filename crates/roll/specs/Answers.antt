@@ -3,39 +3,37 @@
 use Prim.Native.Nat.{ℕ}
 use mathlib.Core.Path.{_≡_}
 use mathlib.Core.List.{List, []}
-use Rattle.planner.specs.Rules.{Refused, Accepted}
-use Rattle.answers.specs.Numbers.{faultNumber}
-use Rattle.roll.specs.Format.{referenceOf, countOf, pOf, qOf, fileRules, recordsOf}
+use Rattle.trials.specs.Rules.{Refused as Given, Accepted}
+use Rattle.trials.specs.Tries.{Refuses}
+use Rattle.roll.specs.Format.{countOf, termsOf, fileRules, recordsOf}
 use Rattle.roll.specs.declared.Trailer.{Trailer}
 use Rattle.roll.specs.declared.Numbers.{Numbers}
 use Rattle.roll.specs.declared.Found.{Found}
 use Rattle.roll.specs.declared.Found.the-variants.{Is, Not}
-use Rattle.answers.specs.declared.RollAnswer.{RollAnswer}
-use Rattle.answers.specs.declared.RollAnswer.the-variants.{File}
+use Rattle.answers.specs.declared.Answer.{Answer}
+use Rattle.answers.specs.declared.Answer.the-variants.{Refused}
 
 -- A trailer's numbers are those of the roll.
 pub record TrailerIs (s : List ℕ) (t : Trailer) : Type 0 where
-  pub reference-is : t .reference ≡ referenceOf s
   pub count-is : t .count ≡ countOf s
-  pub p-is : t .p ≡ pOf s
-  pub q-is : t .q ≡ qOf s
+  pub terms-is : t .terms ≡ termsOf s
 
--- The trailer is found where no file rule is given; else the fault is that of the first that is.
+-- The trailer is found where no file rule is given; else the refusal is that of the first that is.
 unfoldable pub FoundIs : List ℕ → Found → Type 0
 FoundIs s (Is t) = Accepted (fileRules s) × TrailerIs s t
-FoundIs s (Not f) = Refused (fileRules s) (faultNumber f) 0
+FoundIs s (Not refusal) = Refuses (fileRules s) refusal
 
 -- The refusal's number and the trailer's numbers: 0 and those of the roll; on a refusal its number, and the others are 0.
 pub record NumbersIs (s : List ℕ) (n : Numbers) : Type 0 where
   pub accepted : Accepted (fileRules s) → (n .refusal ≡ 0) × TrailerIs s (n .trailer)
-  pub refused : (number place : ℕ) → Refused (fileRules s) number place → (n .refusal ≡ number) × (n .trailer ≡ record { reference = 0; count = 0; p = 0; q = 0 })
+  pub refused : (number place : ℕ) → Given (fileRules s) number place → (n .refusal ≡ number) × (n .trailer ≡ record { count = 0; terms = record { reference = 0; p = 0; q = 0 } })
 
 -- The part with the records; empty on a refusal.
 pub record PartIs (s part : List ℕ) : Type 0 where
   pub accepted : Accepted (fileRules s) → part ≡ recordsOf s
-  pub refused : (number place : ℕ) → Refused (fileRules s) number place → part ≡ []
+  pub refused : (number place : ℕ) → Given (fileRules s) number place → part ≡ []
 
 -- The refusal of a trailer, handed up.
-unfoldable pub HandedUp : Found → RollAnswer → Type 0
+unfoldable pub HandedUp : Found → Answer → Type 0
 HandedUp (Is t) r = Unit {0}
-HandedUp (Not f) r = r ≡ File f
+HandedUp (Not refusal) r = r ≡ Refused refusal

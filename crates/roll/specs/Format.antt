@@ -4,10 +4,11 @@
 use Prim.Native.Nat.{ℕ, zero, suc, _+_, _*_, _-_, _<_}
 use mathlib.Core.Path.{_≡_}
 use mathlib.Core.List.{List, [], _∷_, _++_}
-use mathlib.Core.Logic.{_⊎_}
 use lib.ListN.{length, getD, take, drop}
+use Rattle.trials.specs.Rules.{Rule, rule, Whole}
 use Rattle.planner.specs.Offsets.{Input, reportsOf, fastestOf}
-use Rattle.planner.specs.Rules.{Rule, Whole, Refused, Accepted, wholeRules, reportRules}
+use Rattle.planner.specs.Rules.{planRules}
+use Rattle.planner.specs.declared.Roll.{Roll}
 use Rattle.planner.specs.Outcome.{Outcome}
 
 -- All numbers are little-endian: two bytes, and four.
@@ -38,17 +39,28 @@ pub record Marked (s : List ℕ) : Type 0 where
   pub a : getD s (length s - 2) 0 ≡ 0x41
   pub q : getD s (length s - 1) 0 ≡ 0x51
 
-abbrev rule : ℕ → Type 0 → Rule
-rule number given = record { number = number; given = Whole given }
+-- 10: shorter than 16 bytes.
+abbrev pub shortRule : List ℕ → Rule
+shortRule s = rule 10 (Whole (length s < 16))
 
--- The file rules: 10, shorter than 16 bytes; 11, mark wrong; 12, back distance is not 16 + 12 times the count; 13, back distance exceeds the roll's length.
+-- 11: mark wrong.
+abbrev pub markRule : List ℕ → Rule
+markRule s = rule 11 (Whole (Marked s → ⊥))
+
+-- 12: back distance is not 16 + 12 times the count.
+abbrev pub backRule : List ℕ → Rule
+backRule s = rule 12 (Whole (backOf s ≡ 16 + 12 * countOf s → ⊥))
+
+-- 13: back distance exceeds the roll's length.
+abbrev pub farRule : List ℕ → Rule
+farRule s = rule 13 (Whole (length s < backOf s))
+
+-- The rules of a trailer, and all the file rules, in their order.
+abbrev pub trailerRules : List ℕ → List Rule
+trailerRules s = markRule s ∷ backRule s ∷ farRule s ∷ []
+
 abbrev pub fileRules : List ℕ → List Rule
-fileRules s =
-    rule 10 (length s < 16)
-    ∷ rule 11 (Marked s → ⊥)
-    ∷ rule 12 (backOf s ≡ 16 + 12 * countOf s → ⊥)
-    ∷ rule 13 (length s < backOf s)
-    ∷ []
+fileRules s = shortRule s ∷ trailerRules s
 
 -- The part of the bytes that holds the records: from the back distance before the end up to the trailer.
 abbrev pub recordsOf : List ℕ → List ℕ
@@ -63,25 +75,27 @@ listed (suc n) f = listed n f ++ (f n ∷ [])
 abbrev pub columnIn : List ℕ → ℕ → ℕ → List ℕ
 columnIn part count at = listed count (λ i. u32At part (12 * i + at))
 
--- What the planner is handed: the records of a part, a trailer's reference, P and Q, and a row buffer.
-abbrev pub inputIn : List ℕ → ℕ → ℕ → ℕ → ℕ → List ℕ → Input
-inputIn part count reference p q buffer = record {
+-- What the planner is handed: the records of a part, a trailer's terms, and a row buffer.
+abbrev pub inputIn : List ℕ → ℕ → Roll → List ℕ → Input
+inputIn part count terms buffer = record {
   arrivals = columnIn part count 0;
   deadlines = columnIn part count 4;
   operations = columnIn part count 8;
-  reference = reference;
-  P = p;
-  Q = q;
+  terms = terms;
   buffer = buffer;
 }
 
+-- The terms in a trailer: reference, P and Q.
+abbrev pub termsOf : List ℕ → Roll
+termsOf s = record { reference = referenceOf s; p = pOf s; q = qOf s }
+
 -- The list in a roll.
 abbrev pub inputOf : List ℕ → List ℕ → Input
-inputOf s buffer = inputIn (recordsOf s) (countOf s) (referenceOf s) (pOf s) (qOf s) buffer
+inputOf s buffer = inputIn (recordsOf s) (countOf s) (termsOf s) buffer
 
 -- All the rules, of a roll and the list in it, file rules first.
 abbrev pub rollRules : List ℕ → Input → List Rule
-rollRules s x = fileRules s ++ (wholeRules x ++ reportRules (reportsOf x) (fastestOf x))
+rollRules s x = fileRules s ++ planRules x
 
 -- The outcome of a roll, by all the rules.
 abbrev pub RollOutcome : List ℕ → List ℕ → ℕ → ℕ → ℕ → List ℕ → Type 0

@@ -85,16 +85,27 @@ tells-equal {a} {b} = record { yes = λ e. eqb-true a b e; no = λ e h. eqb-fals
 pub tells-different : {a b : ℕ} → Tells (a ≡ b → ⊥) (not (eqb a b))
 tells-different {a} {b} = record { yes = λ e. eqb-false a b (not-true _ e); no = λ e h. h (eqb-true a b (not-false _ e)) }
 
--- one of two, by a test of each
-pub tells-first : {P Q : Type 0} → P → Tells (P ⊎ Q) true
-tells-first h = record { yes = λ _. inl h; no = λ e. absurd (true≢false e) }
-
-pub tells-second : {P Q : Type 0} {b : Bool} → (P → ⊥) → Tells Q b → Tells (P ⊎ Q) b
-tells-second n t = record { yes = λ e. inr (t .yes e); no = λ e o. ⊎-elim n (t .no e) o }
-
 -- the same, said otherwise
 pub tells-as : {P Q : Type 0} {b : Bool} → (P → Q) → (Q → P) → Tells P b → Tells Q b
 tells-as to back t = record { yes = λ e. to (t .yes e); no = λ e q. t .no e (back q) }
+
+-- the same of numbers that are equal to those tested
+pub tells-below-of : (x y a b : ℕ) → x ≡ a → y ≡ b → Tells (a < b) (ltb x y)
+tells-below-of x y a b e e′ = tells-as (λ (h : x < y). omega (arith, e, e′, h)) (λ (h : a < b). omega (arith, e, e′, h)) tells-below
+
+pub tells-different-of : (x y a b : ℕ) → x ≡ a → y ≡ b → Tells (a ≡ b → ⊥) (not (eqb x y))
+tells-different-of x y a b e e′ = tells-as (λ (h : x ≡ y → ⊥) q. h (e ∙ q ∙ sym e′)) (λ (h : a ≡ b → ⊥) q. h (sym e ∙ q ∙ e′)) tells-different
+
+-- what is so
+pub tells-yes : {P : Type 0} → P → Tells P true
+tells-yes h = record { yes = λ _. h; no = λ e. absurd (true≢false e) }
+
+-- one of two, by a test of each
+pub tells-first : {P Q : Type 0} → P → Tells (P ⊎ Q) true
+tells-first h = tells-yes (inl h)
+
+pub tells-second : {P Q : Type 0} {b : Bool} → (P → ⊥) → Tells Q b → Tells (P ⊎ Q) b
+tells-second n t = record { yes = λ e. inr (t .yes e); no = λ e o. ⊎-elim n (t .no e) o }
 
 -- what search is handed for rules tried in their order
 pub ruleset trying = (whole-cons, least-cons, first-long, after-none, tells-below, tells-equal, tells-different)

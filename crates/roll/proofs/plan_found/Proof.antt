@@ -1,0 +1,60 @@
+-- `roll::plan_found` meets its contract: rules 1 to 4 of the trailer's numbers, and then the list's plan.
+-- Assumes nothing.
+use borrow.Author.Needs.{needs}
+use Rattle.trials.proofs.Passing.{Passed}
+use Rattle.trials.proofs.Trying.{passed, refuses}
+use Rattle.planner.specs.Rules.{wholeRules}
+use Rattle.roll.specs.Format.{inputOf}
+use Rattle.roll.proofs.FileRules.{FileHas, found-is}
+use Rattle.roll.proofs.Rolls.{counted, refused-list, few-records, part-long, planned-roll}
+use Rattle.roll.proofs.plan_found.Statement.{statement}
+use Rattle.roll.proofs.plan_found.Tie as tie
+
+-- ---- where the rules of the whole list have been tried
+abbrev entry : tie.After-count-rules → tie.Start
+entry c = c .before .before .before .before
+
+has : (c : tie.After-count-rules) → FileHas (entry c .args .roll .now) (entry c .args .t)
+has c = found-is (entry c .pre)
+
+-- where they are silent
+quiet : (c : tie.After-enum-told) → Passed (wholeRules (inputOf (entry (c .before .before) .args .roll .now) (entry (c .before .before) .args .rows .now)))
+quiet c =
+    let t = c .before .before in
+    let a = entry t .args in
+    passed (counted (a .roll .now) (a .rows .now) (a .t) (has t) (t .count-rules .ensures)) (c .enum-told .given .1)
+
+returns : tie.Need-returns
+returns c =
+    let t = c .before .before .before in
+    let a = entry t .args in
+    refused-list (a .roll .now) (a .rows .now) (a .t) (has t) (refuses (counted (a .roll .now) (a .rows .now) (a .t) (has t) (t .count-rules .ensures)) (c .before .tried .given .1))
+
+plan-records-requires : tie.Need-plan-records-requires
+plan-records-requires c κs =
+    let told = c .before .before in
+    let t = told .before .before in
+    let a = entry t .args in
+    (part-long (a .roll .now) (a .rows .now) (a .t) (has t) (c .before .records .ensures), few-records (a .roll .now) (a .rows .now) (a .t) (has t) (quiet told))
+
+returns-2 : tie.Need-returns-2
+returns-2 c =
+    let p = c .before .before in
+    let r = p .before .before in
+    let t = r .before .before .before in
+    let a = entry t .args in
+    planned-roll (a .roll .now) (a .rows .now) (a .t) (has t) _ _ _ _ _ (r .records .ensures) (p .plan-records .ensures)
+
+pub plan-found-spec : {M : Type 1} → statement M
+plan-found-spec =
+    tie.close
+    (tie.spec
+    (λ c. search needs)
+    (λ c κs. search needs)
+    (λ c. search needs)
+    returns
+    (λ c. search needs)
+    (λ c κs. search needs)
+    plan-records-requires
+    (λ c. search needs)
+    returns-2)
