@@ -2,6 +2,8 @@
 -- Assumes nothing.
 use Prim.Native.Nat.{ℕ}
 use mathlib.Core.List.{List, [], _∷_}
+use mathlib.Core.Path.{_≡_}
+use Rattle.answers.specs.declared.Reply.{Reply}
 use Rattle.answers.specs.declared.Row.{Row}
 use Rattle.answers.specs.declared.Answer.{Answer}
 use Rattle.answers.specs.declared.Answer.the-variants.{Planned, Refused}
@@ -20,6 +22,12 @@ placeOf (Refused refusal) = refusal .place
 abbrev pub blocksOf : Answer → ℕ
 blocksOf (Planned blocks) = blocks
 blocksOf (Refused refusal) = 0
+
+-- A reply is an answer in 01's numbers.
+pub record InNumbers (answer : Answer) (reply : Reply) : Type 0 where
+  pub number-is : reply .number ≡ numberOf answer
+  pub place-is : reply .place ≡ placeOf answer
+  pub blocks-is : reply .blocks ≡ blocksOf answer
 
 -- A row has five numbers.
 abbrev pub width : ℕ

@@ -1,7 +1,7 @@
 // What is answered for a list and for a roll: a plan, or a refusal with its number and place; and
 // how many numbers a row of a plan has. The definitions are specs/Numbers.antt.
 ghost use mathlib.Core.Path.{_≡_};
-ghost use Rattle.answers.specs.Numbers.{numberOf, placeOf, blocksOf, numbersOf};
+ghost use Rattle.answers.specs.Numbers.{InNumbers, numbersOf};
 
 // A refusal: its number, and the report it concerns, 0 where no report is.
 pub struct Refusal {
@@ -57,7 +57,7 @@ pub struct Reply {
 
 // An answer in 01's numbers.
 pub fn in_numbers(answer: Answer) -> Reply
-    ensures { λ r. ⌜ (r .number ≡ numberOf answer) × (r .place ≡ placeOf answer) × (r .blocks ≡ blocksOf answer) ⌝ }
+    ensures { λ r. ⌜ InNumbers answer r ⌝ }
 {
     match answer {
         Answer::Planned(blocks) => Reply {

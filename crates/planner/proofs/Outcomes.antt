@@ -13,10 +13,11 @@ use Rattle.trials.proofs.Passing.{Passed, both}
 use Rattle.trials.proofs.Trying.{refused-first, refused-later}
 use Rattle.fraction.specs.Fraction.{Fraction, over}
 use Rattle.critical.specs.Reports.{Reports, listOf, Positive, Plannable, FirstWithout}
+use Rattle.critical.specs.Rows.{planOf}
 use Rattle.critical.proofs.Theorems.{room-decides, not-both}
 use Rattle.planner.specs.Offsets.{offset, offsetsOf, paceOf}
 use Rattle.planner.specs.Rules.{planRule, reportRules}
-use Rattle.planner.specs.Outcome.{Outcome, Written}
+use Rattle.planner.specs.Outcome.{rowAt, Outcome, Written}
 use Rattle.planner.specs.Inside.{Sized, Paced, PassEnds, BlocksIn}
 use Rattle.planner.specs.declared.Roll.{Roll}
 use Rattle.planner.proofs.Laws.{length-map}
@@ -41,6 +42,13 @@ module _ (ℓ : Reports) (f : Fraction) (before : List ℕ) where
   pub plans : (rules : List Rule) (blocks : ℕ) (after : List ℕ) → Passed rules → Written ℓ f before blocks after → Outcome rules ℓ f before 0 0 blocks after
   unfolding Outcome
   plans rules blocks after p w = (p .accepted, refl, w)
+
+  -- no rule before rule 9 is given, and the rows are those of the plan wanted: so rule 9 is not given either
+  pub accepts : (form : List Rule) (blocks : ℕ) (after : List ℕ) → Passed form → Written ℓ f before blocks after → Outcome (form ++ (planRule ℓ f ∷ [])) ℓ f before 0 0 blocks after
+  unfolding Accepted
+  accepts form blocks after p w =
+      goes-on form (planRule ℓ f ∷ []) 0 0 blocks after p
+      (plans (planRule ℓ f ∷ []) blocks after (record { accepted = (λ place g. not-both ℓ f place (planOf blocks (rowAt after), w .rows .plan .allowed) g, tt) }) w)
 
 -- ---- rule 9 and the rows
 module _ (ℓ : Reports) (terms : Roll) (paced : Paced terms) (before : List ℕ) where

@@ -7,18 +7,17 @@ use mathlib.Core.List.{List, [], _∷_, _++_}
 use native.Mathlib.Omega.{arith}
 use native.Mathlib.Decide.{ℕ-discrete, decLt}
 use lib.ListN.{length, getD, List·getD-eq-default}
-use Rattle.trials.specs.Rules.{Falls, Accepted}
+use Rattle.trials.specs.Rules.{Falls}
 use Rattle.trials.proofs.Passing.{Passed}
 use Rattle.trials.proofs.Deciding.{dec-below, dec-equal, dec-not, dec-or, dec-falls, Decided, decides-none, decides-whole, decides-least, least-or-none, passes, passed-by}
 use Rattle.fraction.specs.Fraction.{whole, over, plus, times, later}
 use Rattle.critical.specs.Reports.{start}
-use Rattle.critical.specs.Rows.{planOf, holder, behind, sum, Critical}
+use Rattle.critical.specs.Rows.{holder, behind, sum, Critical}
 use Rattle.critical.proofs.Tests.{test-critical}
-use Rattle.critical.proofs.Theorems.{not-both}
 use Rattle.planner.specs.Offsets.{Input, reportsOf, fastestOf}
-use Rattle.planner.specs.Rules.{planRule, wholeRules, formRules}
-use Rattle.planner.specs.Outcome.{rowAt, Written, PlanOutcome}
-use Rattle.planner.proofs.Outcomes.{goes-on, plans}
+use Rattle.planner.specs.Rules.{wholeRules, formRules}
+use Rattle.planner.specs.Outcome.{rowAt, PlanOutcome}
+use Rattle.planner.proofs.Outcomes.{accepts}
 use Rattle.planner.proofs.SomeResult.{decided}
 use Rattle.planner.proofs.OneResult.{one-result}
 use Rattle.planner.proofs.Demands.{a-refusal-writes-nothing}
@@ -39,15 +38,6 @@ module _ (x : Input) (number place blocks : ℕ) (after : List ℕ) (right : Pla
 
   pub another-buffer : (n p b : ℕ) (a : List ℕ) → (after ≡ a → ⊥) → PlanOutcome x n p b a → ⊥
   another-buffer n p b a h o = h (one-result x number place blocks n p b after a right o .3)
-
--- ---- a list that is accepted: rules 1 to 8 are silent, and the rows are those of the plan wanted
-pub accepts : (x : Input) (blocks : ℕ) (after : List ℕ) → Passed (wholeRules x ++ formRules (reportsOf x)) → Written (reportsOf x) (fastestOf x) (x .buffer) blocks after → PlanOutcome x 0 0 blocks after
-unfolding Accepted
-accepts x blocks after p w =
-    let ℓ = reportsOf x in
-    let f = fastestOf x in
-    goes-on ℓ f (x .buffer) (wholeRules x ++ formRules ℓ) (planRule ℓ f ∷ []) 0 0 blocks after p
-    (plans ℓ f (x .buffer) (planRule ℓ f ∷ []) blocks after (record { accepted = (λ place g. not-both ℓ f place (planOf blocks (rowAt after), w .rows .plan .allowed) g, tt) }) w)
 
 -- ---- 01's last starred row, through the promise: three reports, three blocks
 pub crowded : Input
@@ -74,7 +64,7 @@ crowded-critical = test-critical (reportsOf crowded) (fastestOf crowded) 3 (rowA
 pub crowded-right : PlanOutcome crowded 0 0 3 crowded-rows
 unfolding crowded crowded-rows
 crowded-right =
-    accepts crowded 3 crowded-rows crowded-form (record {
+    accepts (reportsOf crowded) (fastestOf crowded) (crowded .buffer) (wholeRules crowded ++ formRules (reportsOf crowded)) 3 crowded-rows crowded-form (record {
       rows = crowded-critical;
       as-long = refl;
       behind = λ i h. List·getD-eq-default crowded-rows 0 h ∙ sym (List·getD-eq-default (crowded .buffer) 0 h);

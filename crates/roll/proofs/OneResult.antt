@@ -58,7 +58,7 @@ one-found s (Not a) (Not b) v w = ap Not (one-refuses (single-file s) v w)
 
 -- ---- records
 -- every string of bytes is accepted or refused by the file rules
-pub dec-marked : {s : List ℕ} → Decidable (Marked s)
+unfoldable pub dec-marked : {s : List ℕ} → Decidable (Marked s)
 dec-marked {s} = record {
   decided = elim (ℕ-discrete (getD s (length s - 2) 0) 0x41) [
     | yes a ↦ elim (ℕ-discrete (getD s (length s - 1) 0) 0x51) [ yes q ↦ inl (record { a = a; q = q }) | no n ↦ inr (λ m. n (m .q)) ]

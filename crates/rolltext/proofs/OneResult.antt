@@ -2,24 +2,25 @@
 -- Assumes nothing.
 use Prim.Native.Nat.{ℕ}
 use mathlib.Core.Path.{_≡_, sym, subst}
-use mathlib.Core.List.{List, _∷_, _++_}
+use mathlib.Core.List.{List, _∷_}
 use Rattle.planner.specs.Offsets.{reportsOf, fastestOf}
-use Rattle.planner.specs.Rules.{Accepted}
-use Rattle.planner.proofs.OneResult.{Single, one-whole, works, one-outcome}
-use Rattle.roll.specs.Format.{inputOf, rollRules}
+use Rattle.trials.proofs.Passing.{last-part}
+use Rattle.trials.proofs.Single.{one-whole}
+use Rattle.planner.specs.Rules.{planRules}
+use Rattle.planner.proofs.OneResult.{works, one-outcome}
+use Rattle.roll.specs.Format.{inputOf, fileRules}
 use Rattle.roll.proofs.OneResult.{single-roll}
 use Rattle.text.specs.Text.{TextIs}
 use Rattle.text.proofs.PlanText.{one-text}
-use Rattle.rolltext.specs.Program.{longRule, ProgramOutcome, Says}
+use Rattle.rolltext.specs.Program.{longRule, programRules, ProgramOutcome, Says}
 
 pub one-program :
     (s buffer : List ℕ) (number place blocks number′ place′ blocks′ : ℕ) (after after′ : List ℕ) →
     ProgramOutcome s buffer number place blocks after → ProgramOutcome s buffer number′ place′ blocks′ after′ →
     (number ≡ number′) × (place ≡ place′) × (blocks ≡ blocks′) × (after ≡ after′)
-unfolding Accepted Single
 one-program s buffer =
     let x = inputOf s buffer in
-    one-outcome (longRule s ∷ rollRules s x) (reportsOf x) (fastestOf x) buffer (one-whole _, single-roll s x) (λ a. works x (a .1 .1 .1 .1 .1))
+    one-outcome (programRules s x) (reportsOf x) (fastestOf x) buffer (one-whole (single-roll s x)) (λ p. works x (last-part (longRule s ∷ fileRules s) (planRules x) p))
 
 -- One length, one row buffer and one text.
 pub one-said :

@@ -1,22 +1,26 @@
 -- What the program says of its input (01, "The roll").
 -- Assumes nothing.
 use Prim.Native.Nat.{ℕ, _<_}
-use mathlib.Core.List.{List, _∷_, _++_}
+use mathlib.Core.List.{List, _∷_}
 use lib.ListN.{length}
-use Rattle.planner.specs.Offsets.{reportsOf, fastestOf}
-use Rattle.planner.specs.Rules.{Rule, Whole}
+use Rattle.trials.specs.Rules.{Rule, rule, Whole}
+use Rattle.planner.specs.Offsets.{Input, reportsOf, fastestOf}
 use Rattle.planner.specs.Outcome.{Outcome}
 use Rattle.roll.specs.Format.{inputOf, rollRules}
 use Rattle.text.specs.Text.{TextIs}
 
 -- The program adds 14: input longer than 65,536 bytes.
 abbrev pub longRule : List ℕ → Rule
-longRule s = record { number = 14; given = Whole (65536 < length s) }
+longRule s = rule 14 (Whole (65536 < length s))
 
--- The outcome of an input, by all the rules, 14 before all others.
+-- All the rules, 14 before all others.
+abbrev pub programRules : List ℕ → Input → List Rule
+programRules s x = longRule s ∷ rollRules s x
+
+-- The outcome of an input, by all the rules.
 abbrev pub ProgramOutcome : List ℕ → List ℕ → ℕ → ℕ → ℕ → List ℕ → Type 0
 ProgramOutcome s buffer number place blocks after =
-    let x = inputOf s buffer in Outcome (longRule s ∷ rollRules s x) (reportsOf x) (fastestOf x) buffer number place blocks after
+    let x = inputOf s buffer in Outcome (programRules s x) (reportsOf x) (fastestOf x) buffer number place blocks after
 
 -- What is said: the text of the outcome.
 pub record Says (s buffer out : List ℕ) (r : ℕ) (after text : List ℕ) : Type 0 where
