@@ -1,6 +1,8 @@
 // rolls: made rolls, each with its name and the text that rollplan would write for it. Every number
 // that a roll can be answered with is among them, as is every shorter front of 01's sample.
 use libc::STDOUT_FILENO;
+use rolltext::Program;
+use answers::Row;
 ghost use Prim.Native.Nat.{_<_, _≤_};
 ghost use lib.ListN.{length};
 
@@ -50,14 +52,14 @@ const SAMPLE: [u8; 40] = [
 
 // The text for an input, with a row buffer of the caller's.
 fn show(input: &[u8], rows: &mut [u32]) {
-    let mut out = [0u8; 107588];
+    let mut out = [0u8; Program::TEXT];
     let length = rolltext::roll_text(input, rows, &mut out);
     io::write_all(STDOUT_FILENO, &out[..length]);
 }
 
 // The same with row room for 1,024 reports, as the program has.
 fn plan(input: &[u8]) {
-    let mut rows = [0u32; 5120];
+    let mut rows = [0u32; Program::ROWS];
     show(input, &mut rows);
 }
 
@@ -100,7 +102,7 @@ fn list_rules() {
     many[12315] = 0x51;
     named(b"2, 1025 records:\n", &many);
     io::write_all(STDOUT_FILENO, b"3, row room for one report of two:\n");
-    let mut rows = [0u32; 5];
+    let mut rows = [0u32; Row::WIDTH];
     show(&SAMPLE, &mut rows);
     changed(b"4, P is 0:\n", 34, 0);
     changed(b"4, Q is 0:\n", 36, 0);
@@ -139,14 +141,14 @@ fn put_last(roll: &mut [u8])
 
 // The longest input, with a preface that is never looked at.
 fn longest() {
-    let mut roll = [0xffu8; 65536];
+    let mut roll = [0xffu8; Program::INPUT];
     put_last(&mut roll);
     named(b"0, 65536 bytes:\n", &roll);
 }
 
 // The same with one byte more.
 fn too_long() {
-    let mut roll = [0xffu8; 65537];
+    let mut roll = [0xffu8; Program::INPUT + 1];
     put_last(&mut roll);
     named(b"14, 65537 bytes:\n", &roll);
 }

@@ -1,6 +1,7 @@
 // Runs every row of 01's table through plan, and each refusal, and writes two lines for each: number,
 // place and block count; then the buffer, whose 30 numbers are all 7 beforehand.
 use libc::STDOUT_FILENO;
+use planner::Roll;
 
 // Writes a number and a space.
 fn show(n: u64) {
@@ -33,9 +34,7 @@ fn run(arrivals: &[u32], deadlines: &[u32], operations: &[u32], reference: u32, 
         arrivals,
         deadlines,
         operations,
-        reference,
-        p,
-        q,
+        Roll::new(reference, p, q),
         &mut buffer,
     );
     let reply = answers::in_numbers(answer);

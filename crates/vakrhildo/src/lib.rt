@@ -2,6 +2,7 @@
 // slices. include/vakrhildo.h declares them for C, outside/vakrhildo wraps them for Rust. The promises
 // are those of planner::plan and roll::plan_roll, in 01's numbers.
 use answers::Reply;
+use planner::Roll;
 ghost use Rattle.planner.specs.Outcome.{PlanOutcome};
 ghost use Rattle.roll.specs.Format.{RollOutcome};
 
@@ -16,9 +17,10 @@ pub extern "C" fn vakrhildo_plan(
     q: u32,
     rows: &mut [u32],
 ) -> Reply
-    ensures { λ r. ⌜ PlanOutcome (record { arrivals = now (arrivals .entry); deadlines = now (deadlines .entry); operations = now (operations .entry); reference = reference; P = p; Q = q; buffer = now (rows .entry) }) (r .number) (r .place) (r .blocks) (now (rows .exit)) ⌝ }
+    ensures { λ r. ⌜ PlanOutcome (record { arrivals = now (arrivals .entry); deadlines = now (deadlines .entry); operations = now (operations .entry); terms = record { reference = reference; p = p; q = q }; buffer = now (rows .entry) }) (r .number) (r .place) (r .blocks) (now (rows .exit)) ⌝ }
 {
-    let answer = planner::plan(arrivals, deadlines, operations, reference, p, q, rows);
+    let terms = Roll { reference, p, q };
+    let answer = planner::plan(arrivals, deadlines, operations, terms, rows);
     answers::in_numbers(answer)
 }
 
@@ -28,5 +30,5 @@ pub extern "C" fn vakrhildo_plan_roll(roll: &[u8], rows: &mut [u32]) -> Reply
     ensures { λ r. ⌜ RollOutcome (now (roll .entry)) (now (rows .entry)) (r .number) (r .place) (r .blocks) (now (rows .exit)) ⌝ }
 {
     let answer = roll::plan_roll(roll, rows);
-    answers::roll_in_numbers(answer)
+    answers::in_numbers(answer)
 }
