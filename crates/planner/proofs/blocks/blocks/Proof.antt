@@ -120,7 +120,8 @@ add-first c =
 loop-less : tie.Need-loop-less Inv-search μ-search Inv-loop μ-loop
 loop-less c =
     let f = c .before .before .before .before .before in
-    omega (arith, found f .from, f .before .before .before .before .before .before .before .loop-test .taken)
+    let t = f .before .before .before in
+    omega (arith, found f .from, t .before .before .before .before .loop-test .taken)
 
 loop-again : tie.Need-loop-again Inv-search μ-search Inv-loop μ-loop
 loop-again c =

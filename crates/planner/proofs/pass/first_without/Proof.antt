@@ -15,14 +15,14 @@ use Rattle.planner.proofs.pass.first_without.Statement.{statement}
 use Rattle.planner.proofs.pass.first_without.Tie as tie
 
 abbrev Inv-loop : tie.InvT-loop
-Inv-loop arrivals deadlines operations roll i₀ done₀ i done =
+Inv-loop arrivals deadlines operations terms i₀ done₀ i done =
     (i ≤ length arrivals)
-    × (done ≡ through (listOf arrivals deadlines operations) (roll .p) (roll .q) i)
+    × (done ≡ through (listOf arrivals deadlines operations) (terms .p) (terms .q) i)
     × (done ≤ 140735340806145 + i * 4294836225)
-    × HoldsTo (listOf arrivals deadlines operations) (over (roll .p) (roll .q)) i
+    × HoldsTo (listOf arrivals deadlines operations) (over (terms .p) (terms .q)) i
 
 abbrev μ-loop : tie.MeasureT-loop
-μ-loop arrivals deadlines operations roll i₀ done₀ i done = length arrivals - i
+μ-loop arrivals deadlines operations terms i₀ done₀ i done = length arrivals - i
 
 loop-holds : tie.Need-loop-holds Inv-loop μ-loop
 loop-holds c =
@@ -64,8 +64,11 @@ due-requires c κs = search needs
 abbrev Turn : Type 0
 Turn = tie.After-due Inv-loop μ-loop
 
+abbrev made : Turn → tie.After-new Inv-loop μ-loop
+made c = c .before .before
+
 abbrev turn : Turn → tie.At-loop Inv-loop μ-loop
-turn c = c .before .before .before .before .before .before .before
+turn c = made c .before .before .before .before .before
 
 abbrev entry : Turn → tie.Start Inv-loop μ-loop
 entry c = turn c .before .before .before .before
@@ -75,7 +78,7 @@ list c = listOf (entry c .args .arrivals .now) (entry c .args .deadlines .now) (
 
 -- the two numbers that are compared: Q times the finish, by the report's own numbers and as the pass has it; and Q times the deadline
 finished : (c : Turn) → c .before .finish .result ≡ max (entry c .args .terms .q * list c .arrival (turn c .loop .i)) (turn c .loop .done) + list c .operations (turn c .loop .i) * entry c .args .terms .p
-finished c = c .before .finish .ensures ∙ ap (λ r. max (entry c .args .terms .q * r .arrival) (turn c .loop .done) + r .operations * entry c .args .terms .p) (c .before .before .new .ensures)
+finished c = c .before .finish .ensures ∙ ap (λ r. max (entry c .args .terms .q * r .arrival) (turn c .loop .done) + r .operations * entry c .args .terms .p) (made c .new .ensures)
 
 passed : (c : Turn) → c .before .finish .result ≡ through (list c) (entry c .args .terms .p) (entry c .args .terms .q) (turn c .loop .i + 1)
 passed c =
@@ -84,7 +87,7 @@ passed c =
     through-step (list c) (s .args .terms .p) (s .args .terms .q) (s .pre .1 .p-some) (s .pre .1 .q-some) (l .i) (l .done) (c .before .finish .result) (l .inv .1) (finished c)
 
 due : (c : Turn) → c .due .result ≡ entry c .args .terms .q * list c .deadline (turn c .loop .i)
-due c = c .due .ensures ∙ ap (λ r. entry c .args .terms .q * r .deadline) (c .before .before .new .ensures)
+due c = c .due .ensures ∙ ap (λ r. entry c .args .terms .q * r .deadline) (made c .new .ensures)
 
 returns : tie.Need-returns Inv-loop μ-loop
 returns c =

@@ -6,41 +6,31 @@ use Rattle.planner.proofs.Searching.{ends-whole}
 use Rattle.planner.proofs.search.take.Statement.{statement}
 use Rattle.planner.proofs.search.take.Tie as tie
 
-sub-last : tie.Need-sub-last
-sub-last c = search needs
-
-joins-requires : tie.Need-joins-requires
-joins-requires c κs = search needs
+-- ---- where it is known whether the reports join
+abbrev entry : tie.After-joins → tie.Start
+entry c = c .before .before .before .before .before
 
 weigh-requires : tie.Need-weigh-requires
 weigh-requires c κs =
-    let s = c .before .before .before .before .before .before in
+    let s = entry (c .before) in
     (s .pre .0, (s .pre .1, c .before .joins .ensures .0 (c .if1 .taken)))
-
-mul-t10 : tie.Need-mul-t10
-mul-t10 c = search needs
-
-shared-slice-read-t12 : tie.Need-shared-slice-read-t12
-shared-slice-read-t12 c = search needs
-
-returns : tie.Need-returns
-returns c = search needs
 
 returns-2 : tie.Need-returns-2
 unfolding StepIs
 returns-2 c =
-    let s = c .before .before .before .before .before .before .before in
+    let j = c .before .before in
+    let s = entry j in
     let a = s .args in
-    ends-whole (a .arrivals .now) (a .deadlines .now) (a .operations .now) (s .pre .0) (a .from) (a .first) (a .kept) (s .pre .1) (c .before .before .joins .ensures .1 (c .before .if1 .left))
+    ends-whole (a .arrivals .now) (a .deadlines .now) (a .operations .now) (s .pre .0) (a .from) (a .first) (a .kept) (s .pre .1) (j .joins .ensures .1 (c .before .if1 .left))
 
 pub take-spec : {M : Type 1} → statement M
 take-spec =
     tie.close
     (tie.spec
-    sub-last
-    joins-requires
+    (λ c. search needs)
+    (λ c κs. search needs)
     weigh-requires
-    mul-t10
-    shared-slice-read-t12
-    returns
+    (λ c. search needs)
+    (λ c. search needs)
+    (λ c. search needs)
     returns-2)
