@@ -90,12 +90,6 @@ impl Row {
     pub fn numbers(self) -> [u32; Row::WIDTH]
         ensures { λ r. ⌜ r ≡ numbersOf self ⌝ }
     {
-        [
-            self.first,
-            self.last,
-            self.start,
-            self.end,
-            self.operations,
-        ]
+        [self.first, self.last, self.start, self.end, self.operations]
     }
 }

@@ -116,12 +116,22 @@ module _ (x : Input) where
       omega (arith, length-map (offset (x .terms .reference)) (x .arrivals), enough-room (length (x .arrivals)) (length (x .buffer)) short) in
       let pos : Positive f = positive ℓ (x .terms) (good-pace pace) (x .buffer) in
       ⊎-elim
-      (λ (plan : Plannable ℓ f). let w = written ℓ f (x .buffer) (working ℓ work) pos plan room in
-      (0, 0, w .0, w .1, goes-on ℓ f (x .buffer) form (planRule ℓ f ∷ []) 0 0 (w .0) (w .1) p
-      (plans ℓ f (x .buffer) (planRule ℓ f ∷ []) (w .0) (w .1) (record { accepted = (λ place g. not-both ℓ f place plan g, tt) }) (w .2))))
-      (λ (w : (i : ℕ) × FirstWithout ℓ f i).
-      (9, w .0, 0, x .buffer, goes-on ℓ f (x .buffer) form (planRule ℓ f ∷ []) 9 (w .0) 0 (x .buffer) p
-      (hands-up ℓ f (x .buffer) (planRule ℓ f ∷ []) [] (record { refused = inl (refl, w .1); numbered = omega arith }))))
+      (λ (plan : Plannable ℓ f). let w = written ℓ f (x .buffer) (working ℓ work) pos plan room in (
+        0,
+        0,
+        w .0,
+        w .1,
+        goes-on ℓ f (x .buffer) form (planRule ℓ f ∷ []) 0 0 (w .0) (w .1) p
+            (plans ℓ f (x .buffer) (planRule ℓ f ∷ []) (w .0) (w .1) (record { accepted = (λ place g. not-both ℓ f place plan g, tt) }) (w .2)),
+      ))
+      (λ (w : (i : ℕ) × FirstWithout ℓ f i). (
+        9,
+        w .0,
+        0,
+        x .buffer,
+        goes-on ℓ f (x .buffer) form (planRule ℓ f ∷ []) 9 (w .0) 0 (x .buffer) p
+            (hands-up ℓ f (x .buffer) (planRule ℓ f ∷ []) [] (record { refused = inl (refl, w .1); numbered = omega arith })),
+      ))
       (plan-or-refusal ℓ f pos)
 
   -- There is a result for each input.

@@ -1,8 +1,8 @@
 // rolls: made rolls, each with its name and the text that rollplan would write for it. Every number
 // that a roll can be answered with is among them, as is every shorter front of 01's sample.
+use answers::Row;
 use libc::STDOUT_FILENO;
 use rolltext::Program;
-use answers::Row;
 ghost use Prim.Native.Nat.{_<_, _≤_};
 ghost use lib.ListN.{length};
 
