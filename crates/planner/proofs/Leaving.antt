@@ -46,9 +46,9 @@ working ℓ q i h = within-range 1 65535 (ℓ .operations i) (unfaulted q i h) .
 module _ (xs ys ws before : List ℕ) (terms : Roll) (p : Passed (countRules (length xs) (length ys) (length ws) terms (length before))) where
   pub sized-lists : Sized xs ys ws before
   sized-lists =
-      let lengths : Quiet (lengthsRule (length xs) (length ys) (length ws)) = search finding in
-      let many : Quiet (manyRule (length xs)) = search finding in
-      let short : Quiet (shortRule (length xs) (length before)) = search finding in
+      let lengths : Quiet (lengthsRule (length xs) (length ys) (length ws)) = search finding depth 40 in
+      let many : Quiet (manyRule (length xs)) = search finding depth 40 in
+      let short : Quiet (shortRule (length xs) (length before)) = search finding depth 40 in
       record {
         deadlines-long = elim (ℕ-discrete (length ys) (length xs)) [ yes e ↦ e | no h ↦ absurd (untrue lengths (inl (λ e. h (sym e)))) ];
         operations-long = elim (ℕ-discrete (length ws) (length xs)) [ yes e ↦ e | no h ↦ absurd (untrue lengths (inr (λ e. h (sym e)))) ];
@@ -57,7 +57,7 @@ module _ (xs ys ws before : List ℕ) (terms : Roll) (p : Passed (countRules (le
       }
 
   pub good-terms : Paced terms
-  good-terms = let pace : Quiet (paceRule terms) = search finding in good-pace pace
+  good-terms = let pace : Quiet (paceRule terms) = search finding depth 40 in good-pace pace
 
 -- ---- and rules 5 to 7
 module _ (xs ys ws before : List ℕ) (sized : Sized xs ys ws before) (p : Passed (formRules (listOf xs ys ws))) where
@@ -66,9 +66,9 @@ module _ (xs ys ws before : List ℕ) (sized : Sized xs ys ws before) (p : Passe
 
   pub fair-lists : Fair xs ys ws
   fair-lists =
-      let work : Quiet (operationsRule ℓ) = search finding in
-      let arrive : Quiet (arrivalRule ℓ) = search finding in
-      let due : Quiet (deadlineRule ℓ) = search finding in
+      let work : Quiet (operationsRule ℓ) = search finding depth 40 in
+      let arrive : Quiet (arrivalRule ℓ) = search finding depth 40 in
+      let due : Quiet (deadlineRule ℓ) = search finding depth 40 in
       record {
         deadlines-long = sized .deadlines-long;
         operations-long = sized .operations-long;

@@ -36,7 +36,7 @@ single-rules x = search (singly, one-plan-rule) depth 40
 pub one-count-verdict :
     (so-far : Verdict) (arrivals deadlines operations : ℕ) (terms : Roll) (room : ℕ) (r s : Verdict) →
     After so-far (countRules arrivals deadlines operations terms room) r → After so-far (countRules arrivals deadlines operations terms room) s → r ≡ s
-one-count-verdict so-far arrivals deadlines operations terms room r s = one-after so-far r s (search singly)
+one-count-verdict so-far arrivals deadlines operations terms room r s = one-after so-far r s (search singly depth 40)
 
 -- ---- one buffer
 -- an accepted list has reports with something to do

@@ -29,9 +29,9 @@ pub record FileIs (s : List ℕ) : Type 0 where
 
 pub file-is : (s : List ℕ) → Passed (fileRules s) → FileIs s
 file-is s p =
-    let short : Quiet (shortRule s) = search finding in
-    let back : Quiet (backRule s) = search finding in
-    let far : Quiet (farRule s) = search finding in
+    let short : Quiet (shortRule s) = search finding depth 40 in
+    let back : Quiet (backRule s) = search finding depth 40 in
+    let far : Quiet (farRule s) = search finding depth 40 in
     record {
       long = cases (length s) 16 (λ h. absurd (untrue short h)) (λ g. g);
       back-is = elim (ℕ-discrete (backOf s) (16 + 12 * countOf s)) [ yes e ↦ e | no h ↦ absurd (untrue back h) ];

@@ -24,7 +24,7 @@ use Rattle.roll.specs.declared.Found.the-variants.{Is, Not}
 
 -- ---- each rule is given with one place only
 pub single-file : (s : List ℕ) → Soles (fileRules s)
-single-file s = search singly
+single-file s = search singly depth 40
 
 pub single-roll : (s : List ℕ) (x : Input) → Soles (rollRules s x)
 single-roll s x = search (singly, one-plan-rule) depth 40
@@ -67,7 +67,7 @@ dec-marked {s} = record {
 }
 
 pub decides-file : (s : List ℕ) → Decides (fileRules s)
-decides-file s = search (deciding, dec-marked) depth 20
+decides-file s = search (deciding, dec-marked) depth 40
 
 pub file-decided : (s : List ℕ) → Passed (fileRules s) ⊎ Gives (fileRules s)
 file-decided s = passed-or-given (decides-file s)

@@ -65,7 +65,7 @@ module _ (s buffer : List ℕ) where
     -- none is: there are few enough records
     pub few-records : Passed (wholeRules x) → t .count ≤ 1024
     few-records p =
-        let many : Quiet (manyRule (length (x .arrivals))) = search finding in
+        let many : Quiet (manyRule (length (x .arrivals))) = search finding depth 40 in
         omega (arith, few-reports many, column-long (recordsOf s) (countOf s) 0, g .trailer .count-is)
 
     -- its part is as long as its records

@@ -16,4 +16,4 @@ count-rules-spec =
     (λ c κs. search needs)
     (λ c κs. search needs)
     (λ c κs. search needs)
-    (λ c. search trying depth 20 fits 4000))
+    (λ c. search trying depth 40 fits 8000))

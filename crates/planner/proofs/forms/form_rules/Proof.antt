@@ -17,4 +17,4 @@ form-rules-spec =
     (λ c κs. search needs)
     (λ c κs. search needs)
     (λ c κs. search needs)
-    (λ c. search trying depth 20 fits 4000))
+    (λ c. search trying depth 40 fits 8000))
