@@ -36,7 +36,11 @@ fn measured_sweep(l: &Made, rows: &mut [u32]) -> Answer {
     plain::sweep(&l.arrivals, &l.deadlines, &l.operations, 0, l.p, l.q, rows)
 }
 
-const PLANNERS: [(&str, Planner); 3] = [("vakrhildo", measured_vakrhildo), ("nested", measured_nested), ("sweep", measured_sweep)];
+const PLANNERS: [(&str, Planner); 3] = [
+    ("vakrhildo", measured_vakrhildo),
+    ("nested", measured_nested),
+    ("sweep", measured_sweep),
+];
 
 fn made(kind: &str, n: usize) -> Option<Made> {
     match kind {
@@ -56,7 +60,10 @@ fn agree(l: &Made) {
             (planner(l, &mut rows), rows)
         })
         .collect();
-    assert!(answers.iter().all(|answer| *answer == answers[0]), "the planners differ");
+    assert!(
+        answers.iter().all(|answer| *answer == answers[0]),
+        "the planners differ"
+    );
     assert_eq!(answers[0].0 .0, 0, "the list is refused");
 }
 
@@ -82,7 +89,10 @@ fn times() {
         for n in SIZES {
             let l = made(kind, n).expect("a kind");
             agree(&l);
-            let t: Vec<String> = PLANNERS.iter().map(|(_, planner)| least_time(*planner, &l).to_string()).collect();
+            let t: Vec<String> = PLANNERS
+                .iter()
+                .map(|(_, planner)| least_time(*planner, &l).to_string())
+                .collect();
             println!("{kind}, {n}: {}", t.join(", "));
         }
     }
@@ -94,7 +104,10 @@ fn main() {
         ["time"] => times(),
         ["once", which, kind, n] => {
             let l = made(kind, n.parse().expect("a number")).expect("random, worst or gaps");
-            let (_, planner) = PLANNERS.iter().find(|(name, _)| *name == which).expect("vakrhildo, nested or sweep");
+            let (_, planner) = PLANNERS
+                .iter()
+                .find(|(name, _)| *name == which)
+                .expect("vakrhildo, nested or sweep");
             let mut rows = vec![0; ROOM];
             let answer = planner(&l, &mut rows);
             println!("{answer:?}");

@@ -43,7 +43,15 @@ fn reply(answer: Result<usize, vakrhildo::Refusal>) -> Reply {
 
 impl Planner for Proved {
     fn plan(&self, l: &List, rows: &mut [u32]) -> Reply {
-        reply(vakrhildo::plan(&l.arrivals, &l.deadlines, &l.operations, l.reference, l.p, l.q, rows))
+        reply(vakrhildo::plan(
+            &l.arrivals,
+            &l.deadlines,
+            &l.operations,
+            l.reference,
+            l.p,
+            l.q,
+            rows,
+        ))
     }
 
     fn plan_roll(&self, roll: &[u8], rows: &mut [u32]) -> Reply {
@@ -52,7 +60,10 @@ impl Planner for Proved {
 }
 
 fn numbers(list: &[u32]) -> String {
-    list.iter().map(u32::to_string).collect::<Vec<_>>().join(",")
+    list.iter()
+        .map(u32::to_string)
+        .collect::<Vec<_>>()
+        .join(",")
 }
 
 fn hex(bytes: &[u8]) -> String {
@@ -94,22 +105,32 @@ impl Case {
                 q: q.parse().ok()?,
                 room: room.parse().ok()?,
             })),
-            ["roll", bytes, room] => Some(Case::Roll { bytes: parse_hex(bytes)?, room: room.parse().ok()? }),
-            ["program", bytes] => Some(Case::Program { bytes: parse_hex(bytes)? }),
+            ["roll", bytes, room] => Some(Case::Roll {
+                bytes: parse_hex(bytes)?,
+                room: room.parse().ok()?,
+            }),
+            ["program", bytes] => Some(Case::Program {
+                bytes: parse_hex(bytes)?,
+            }),
             _ => None,
         }
     }
 }
 
 fn parse_numbers(text: &str) -> Option<Vec<u32>> {
-    text.split(',').filter(|n| !n.is_empty()).map(|n| n.parse().ok()).collect()
+    text.split(',')
+        .filter(|n| !n.is_empty())
+        .map(|n| n.parse().ok())
+        .collect()
 }
 
 fn parse_hex(text: &str) -> Option<Vec<u8>> {
     if !text.len().is_multiple_of(2) || !text.is_ascii() {
         return None;
     }
-    (0..text.len() / 2).map(|i| u8::from_str_radix(&text[2 * i..2 * i + 2], 16).ok()).collect()
+    (0..text.len() / 2)
+        .map(|i| u8::from_str_radix(&text[2 * i..2 * i + 2], 16).ok())
+        .collect()
 }
 
 #[cfg(test)]
@@ -118,8 +139,23 @@ mod tests {
 
     #[test]
     fn a_case_can_be_read_back() {
-        let list = List { arrivals: vec![1, 2], deadlines: vec![], operations: vec![7], reference: 4294967290, p: 2, q: 3, room: 11 };
-        for case in [Case::List(list), Case::Roll { bytes: vec![0, 255, 65], room: 5 }, Case::Program { bytes: vec![] }] {
+        let list = List {
+            arrivals: vec![1, 2],
+            deadlines: vec![],
+            operations: vec![7],
+            reference: 4294967290,
+            p: 2,
+            q: 3,
+            room: 11,
+        };
+        for case in [
+            Case::List(list),
+            Case::Roll {
+                bytes: vec![0, 255, 65],
+                room: 5,
+            },
+            Case::Program { bytes: vec![] },
+        ] {
             assert_eq!(Case::parse(&case.line()), Some(case));
         }
         assert_eq!(Case::parse("roll:0:5"), None);

@@ -21,9 +21,15 @@ pub struct Depth {
 }
 
 /// The answer is the oracle's and nothing more.
-pub const ANSWER: Depth = Depth { properties: false, threshold: None };
+pub const ANSWER: Depth = Depth {
+    properties: false,
+    threshold: None,
+};
 /// It is also held against the properties.
-pub const PROPERTIES: Depth = Depth { properties: true, threshold: None };
+pub const PROPERTIES: Depth = Depth {
+    properties: true,
+    threshold: None,
+};
 
 /// A pattern that no row is likely to have.
 fn pattern(i: usize) -> u32 {
@@ -41,21 +47,31 @@ fn run(room: usize, plan: impl FnOnce(&mut [u32]) -> Reply) -> (Reply, Vec<u32>)
 fn same(answer: &Answer, reply: Reply, memory: &[u32]) -> Result<(), String> {
     let wanted = (answer.number, answer.place, answer.rows.len());
     if reply != wanted {
-        return Err(format!("number, place and blocks are {reply:?}, wanted {wanted:?}"));
+        return Err(format!(
+            "number, place and blocks are {reply:?}, wanted {wanted:?}"
+        ));
     }
     let rows: Vec<u32> = answer.rows.concat();
     for (i, &found) in memory.iter().enumerate() {
         let row_number = i.checked_sub(MARGIN).and_then(|at| rows.get(at));
         let wanted = row_number.copied().unwrap_or(pattern(i));
         if found != wanted {
-            return Err(format!("number {} of the buffer is {found}, wanted {wanted}", i as i64 - MARGIN as i64));
+            return Err(format!(
+                "number {} of the buffer is {found}, wanted {wanted}",
+                i as i64 - MARGIN as i64
+            ));
         }
     }
     Ok(())
 }
 
 /// An accepted answer, held against the definitions.
-fn defined(reports: &Reports, answer: &Answer, depth: Depth, tally: &mut Tally) -> Result<(), String> {
+fn defined(
+    reports: &Reports,
+    answer: &Answer,
+    depth: Depth,
+    tally: &mut Tally,
+) -> Result<(), String> {
     if answer.number != 0 {
         return Ok(());
     }
@@ -81,9 +97,19 @@ fn list_of(l: &List) -> oracle::List<'_> {
     }
 }
 
-fn judge_list(planner: &dyn Planner, l: &List, depth: Depth, tally: &mut Tally) -> Result<u32, String> {
+fn judge_list(
+    planner: &dyn Planner,
+    l: &List,
+    depth: Depth,
+    tally: &mut Tally,
+) -> Result<u32, String> {
     let list = list_of(l);
-    tally.wrapped += u64::from(l.arrivals.iter().chain(&l.deadlines).any(|&reading| reading < l.reference));
+    tally.wrapped += u64::from(
+        l.arrivals
+            .iter()
+            .chain(&l.deadlines)
+            .any(|&reading| reading < l.reference),
+    );
     let answer = oracle::answer_list(&list);
     let (reply, memory) = run(l.room, |rows| planner.plan(l, rows));
     same(&answer, reply, &memory)?;
@@ -101,11 +127,18 @@ fn judge_roll(planner: &dyn Planner, bytes: &[u8], room: usize) -> Result<u32, S
 /// Runs rollplan on an input that comes in two pieces.
 fn rollplan(program: &Path, input: &[u8]) -> Result<Vec<u8>, String> {
     let failed = |e: std::io::Error| format!("{}: {e}", program.display());
-    let mut child = Command::new(program).stdin(Stdio::piped()).stdout(Stdio::piped()).spawn().map_err(failed)?;
+    let mut child = Command::new(program)
+        .stdin(Stdio::piped())
+        .stdout(Stdio::piped())
+        .spawn()
+        .map_err(failed)?;
     let mut pipe = child.stdin.take().expect("a pipe");
     let (front, rest) = input.split_at(input.len() / 2);
     // The program stops reading once it knows that the input is too long, so a broken pipe is no fault.
-    let _ = pipe.write_all(front).and_then(|()| pipe.flush()).and_then(|()| pipe.write_all(rest));
+    let _ = pipe
+        .write_all(front)
+        .and_then(|()| pipe.flush())
+        .and_then(|()| pipe.write_all(rest));
     drop(pipe);
     Ok(child.wait_with_output().map_err(failed)?.stdout)
 }
@@ -114,20 +147,35 @@ fn judge_program(program: &Path, input: &[u8]) -> Result<u32, String> {
     let wanted = oracle::answer_program(input);
     let found = rollplan(program, input)?;
     if found != wanted {
-        return Err(format!("wrote {:?}, wanted {:?}", String::from_utf8_lossy(&found), String::from_utf8_lossy(&wanted)));
+        return Err(format!(
+            "wrote {:?}, wanted {:?}",
+            String::from_utf8_lossy(&found),
+            String::from_utf8_lossy(&wanted)
+        ));
     }
     let text = String::from_utf8_lossy(&wanted).into_owned();
-    Ok(text.split(' ').nth(1).and_then(|n| n.parse().ok()).unwrap_or(0))
+    Ok(text
+        .split(' ')
+        .nth(1)
+        .and_then(|n| n.parse().ok())
+        .unwrap_or(0))
 }
 
 /// Compares one case, and counts it. An error says what differs, and how to run the case alone.
-pub fn judge(planner: &dyn Planner, program: &Path, case: &Case, depth: Depth, tally: &mut Tally) -> Result<(), String> {
+pub fn judge(
+    planner: &dyn Planner,
+    program: &Path,
+    case: &Case,
+    depth: Depth,
+    tally: &mut Tally,
+) -> Result<(), String> {
     let judged = match case {
         Case::List(l) => judge_list(planner, l, depth, tally),
         Case::Roll { bytes, room } => judge_roll(planner, bytes, *room),
         Case::Program { bytes } => judge_program(program, bytes),
     };
-    let number = judged.map_err(|what| format!("{what}\nrun it alone: compare --case {}", case.line()))?;
+    let number =
+        judged.map_err(|what| format!("{what}\nrun it alone: compare --case {}", case.line()))?;
     tally.answers[number as usize] += 1;
     Ok(())
 }

@@ -36,7 +36,15 @@ const TOP: u64 = 2_147_483_647;
 
 fn list(arrivals: &[u32], deadlines: &[u32], operations: &[u32], p: u32, q: u32) -> List {
     let room = 5 * arrivals.len();
-    List { arrivals: arrivals.into(), deadlines: deadlines.into(), operations: operations.into(), reference: 0, p, q, room }
+    List {
+        arrivals: arrivals.into(),
+        deadlines: deadlines.into(),
+        operations: operations.into(),
+        reference: 0,
+        p,
+        q,
+        room,
+    }
 }
 
 /// The same list with all readings moved to another reference.
@@ -68,7 +76,10 @@ pub fn table(take: &mut Take) -> Done {
         list(&[0], &[2147483648], &[1], 1, 1),
         list(&[5, 4], &[20, 20], &[2, 2], 1, 1),
         list(&[5, 4], &[20, 20], &[2, 0], 1, 1),
-        List { reference: 4294967290, ..list(&[4294967295, 3], &[9, 14], &[2, 2], 1, 1) },
+        List {
+            reference: 4294967290,
+            ..list(&[4294967295, 3], &[9, 14], &[2, 2], 1, 1)
+        },
     ];
     for l in rows {
         take("rows of 01's table", Case::List(l), PROPERTIES)?;
@@ -83,13 +94,24 @@ pub fn small(take: &mut Take) -> Done {
     let mut seen = 0u64;
     for n in 0..=3u32 {
         for code in 0..REPORTS.pow(n) {
-            let reports: Vec<_> = (0..n).map(|i| report(code / REPORTS.pow(i) % REPORTS)).collect();
+            let reports: Vec<_> = (0..n)
+                .map(|i| report(code / REPORTS.pow(i) % REPORTS))
+                .collect();
             let column = |f: fn(&(u32, u32, u32)) -> u32| reports.iter().map(f).collect::<Vec<_>>();
             for (p, q) in [(1, 1), (2, 1), (1, 2)] {
                 let l = list(&column(|r| r.0), &column(|r| r.1), &column(|r| r.2), p, q);
                 seen += 1;
-                let threshold = seen.is_multiple_of(101).then_some((1 + seen % 13, 1 + seen % 5, seen));
-                take("every list of up to 3 reports over small numbers", Case::List(l), Depth { properties: true, threshold })?;
+                let threshold =
+                    seen.is_multiple_of(101)
+                        .then_some((1 + seen % 13, 1 + seen % 5, seen));
+                take(
+                    "every list of up to 3 reports over small numbers",
+                    Case::List(l),
+                    Depth {
+                        properties: true,
+                        threshold,
+                    },
+                )?;
             }
         }
     }
@@ -107,7 +129,11 @@ fn near(dice: &mut Dice, n: usize, numbers: u64, slack: u64) -> List {
         let operations = 1 + dice.below(most);
         arrival += if dice.once_in(3) { 0 } else { dice.below(gap) };
         finish = finish.max(u128::from(arrival * q)) + u128::from(operations * p);
-        let spare = if dice.once_in(4) { 0 } else { dice.below(slack) };
+        let spare = if dice.once_in(4) {
+            0
+        } else {
+            dice.below(slack)
+        };
         let missed = u64::from(dice.once_in(2 * n as u64));
         let deadline = (finish.div_ceil(u128::from(q)) as u64 + spare).saturating_sub(missed);
         l.arrivals.push(arrival.min(TOP) as u32);
@@ -130,21 +156,45 @@ pub fn random_small(take: &mut Take, dice: &mut Dice, times: u64) -> Done {
         let slack = 1 + dice.below(20);
         let mut l = near(dice, n, numbers, slack);
         l.room += dice.below(4) as usize;
-        let threshold = dice.once_in(8).then(|| (1 + dice.below(40), 1 + dice.below(12), dice.roll()));
-        take("random lists of up to 8 reports", Case::List(l), Depth { properties: true, threshold })?;
+        let threshold = dice
+            .once_in(8)
+            .then(|| (1 + dice.below(40), 1 + dice.below(12), dice.roll()));
+        take(
+            "random lists of up to 8 reports",
+            Case::List(l),
+            Depth {
+                properties: true,
+                threshold,
+            },
+        )?;
     }
     Ok(())
 }
 
 /// Random lists of up to `most` reports, near the line.
-pub fn random_large(take: &mut Take, dice: &mut Dice, times: u64, most: u64, group: &'static str) -> Done {
+pub fn random_large(
+    take: &mut Take,
+    dice: &mut Dice,
+    times: u64,
+    most: u64,
+    group: &'static str,
+) -> Done {
     for _ in 0..times {
         let n = 1 + dice.below(most) as usize;
         let numbers = 1 + dice.below(250);
         let slack = 1 << dice.below(18);
         let l = near(dice, n, numbers, slack);
-        let threshold = dice.once_in(10).then(|| (1 + dice.below(4000), 1 + dice.below(40), dice.roll()));
-        take(group, Case::List(l), Depth { properties: true, threshold })?;
+        let threshold = dice
+            .once_in(10)
+            .then(|| (1 + dice.below(4000), 1 + dice.below(40), dice.roll()));
+        take(
+            group,
+            Case::List(l),
+            Depth {
+                properties: true,
+                threshold,
+            },
+        )?;
     }
     Ok(())
 }
@@ -177,7 +227,10 @@ fn edge(dice: &mut Dice, rule: u64) -> List {
             l = list(&vec![0; n], &vec![TOP as u32; n], &vec![1; n], 1, 1);
         }
         3 => l.room = l.room - 1 + hair as usize,
-        4 => *if dice.once_in(2) { &mut l.p } else { &mut l.q } = [0, 65_535, 65_536, u32::MAX][dice.below(4) as usize],
+        4 => {
+            *if dice.once_in(2) { &mut l.p } else { &mut l.q } =
+                [0, 65_535, 65_536, u32::MAX][dice.below(4) as usize]
+        }
         5 => l.operations[at] = [0, 65_535, 65_536, u32::MAX][dice.below(4) as usize],
         6 => l.arrivals[at] = l.reference.wrapping_add((TOP + hair) as u32),
         7 => l.deadlines[at] = l.reference.wrapping_add((TOP + hair) as u32),
@@ -251,7 +304,8 @@ fn damage(dice: &mut Dice, bytes: &mut Vec<u8>) {
             }
         }
         6 => bytes.push(dice.roll() as u8),
-        _ => bytes[n - 16..n - 12].copy_from_slice(&(dice.roll() as u32 >> dice.below(30)).to_le_bytes()),
+        _ => bytes[n - 16..n - 12]
+            .copy_from_slice(&(dice.roll() as u32 >> dice.below(30)).to_le_bytes()),
     }
 }
 
@@ -262,8 +316,16 @@ pub fn rolls(take: &mut Take, dice: &mut Dice, times: u64) -> Done {
         if k % 4 != 0 {
             damage(dice, &mut bytes);
         }
-        let room = if dice.once_in(5) { dice.below(5 * n as u64 + 5) as usize } else { 5 * n + dice.below(7) as usize };
-        let group = if k % 4 == 0 { "rolls with prefaces" } else { "damaged rolls" };
+        let room = if dice.once_in(5) {
+            dice.below(5 * n as u64 + 5) as usize
+        } else {
+            5 * n + dice.below(7) as usize
+        };
+        let group = if k % 4 == 0 {
+            "rolls with prefaces"
+        } else {
+            "damaged rolls"
+        };
         take(group, Case::Roll { bytes, room }, ANSWER)?;
     }
     Ok(())
@@ -274,30 +336,57 @@ pub fn long_rolls(take: &mut Take, dice: &mut Dice, times: u64) -> Done {
     for _ in 0..times {
         let n = 1_022 + dice.below(6) as usize;
         let l = list(&vec![0; n], &vec![TOP as u32; n], &vec![1; n], 1, 1);
-        take("rolls of about 1,024 records", Case::Roll { bytes: roll_of(&l, &[]), room: 5 * n }, ANSWER)?;
+        take(
+            "rolls of about 1,024 records",
+            Case::Roll {
+                bytes: roll_of(&l, &[]),
+                room: 5 * n,
+            },
+            ANSWER,
+        )?;
     }
     Ok(())
 }
 
 /// Inputs of the program: every front of 01's sample, rolls whole and damaged, and inputs about 65,536 bytes long.
 pub fn inputs(take: &mut Take, dice: &mut Dice, times: u64) -> Done {
-    let sample = roll_of(&List { reference: 100, ..list(&[100, 100], &[104, 112], &[2, 2], 1, 1) }, &[]);
+    let sample = roll_of(
+        &List {
+            reference: 100,
+            ..list(&[100, 100], &[104, 112], &[2, 2], 1, 1)
+        },
+        &[],
+    );
     for n in 0..=sample.len() {
-        take("inputs of rollplan: fronts of the sample", Case::Program { bytes: sample[..n].to_vec() }, ANSWER)?;
+        take(
+            "inputs of rollplan: fronts of the sample",
+            Case::Program {
+                bytes: sample[..n].to_vec(),
+            },
+            ANSWER,
+        )?;
     }
     for k in 0..times {
         let (mut bytes, _) = random_roll(dice);
         if k % 2 != 0 {
             damage(dice, &mut bytes);
         }
-        take("inputs of rollplan: rolls, whole and damaged", Case::Program { bytes }, ANSWER)?;
+        take(
+            "inputs of rollplan: rolls, whole and damaged",
+            Case::Program { bytes },
+            ANSWER,
+        )?;
     }
     for k in 0..times / 4 {
         let (roll, _) = random_roll(dice);
         let length = [65_536, 65_537, 65_535, 65_537 + dice.below(70_000) as usize][k as usize % 4];
         let mut bytes = vec![0xaa; length - roll.len()];
         bytes.extend(roll);
-        take("inputs of rollplan about 65,536 bytes long", Case::Program { bytes }, ANSWER)?;
+        take(
+            "inputs of rollplan about 65,536 bytes long",
+            Case::Program { bytes },
+            ANSWER,
+        )?;
     }
     Ok(())
 }

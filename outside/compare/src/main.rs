@@ -18,8 +18,20 @@ fn groups(take: &mut Take, seed: u64) -> Result<(), String> {
     made::table(take)?;
     made::small(take)?;
     made::random_small(take, dice, 1_000_000)?;
-    made::random_large(take, dice, 100_000, 60, "random lists of up to 60 reports near the line")?;
-    made::random_large(take, dice, 3_000, 1_024, "random lists of up to 1,024 reports near the line")?;
+    made::random_large(
+        take,
+        dice,
+        100_000,
+        60,
+        "random lists of up to 60 reports near the line",
+    )?;
+    made::random_large(
+        take,
+        dice,
+        3_000,
+        1_024,
+        "random lists of up to 1,024 reports near the line",
+    )?;
     made::edges(take, dice, 200_000)?;
     made::rolls(take, dice, 600_000)?;
     made::long_rolls(take, dice, 300)?;
@@ -37,7 +49,9 @@ fn all(program: PathBuf, seed: u64) -> Result<(), String> {
     tally.print();
     let rare = tally.rare(LEAST_OF_EACH);
     if !rare.is_empty() {
-        return Err(format!("refusals met fewer than {LEAST_OF_EACH} times: {rare:?}"));
+        return Err(format!(
+            "refusals met fewer than {LEAST_OF_EACH} times: {rare:?}"
+        ));
     }
     if tally.wrapped < LEAST_OF_EACH {
         return Err("too few lists in which the clock runs past its top".into());
@@ -49,12 +63,19 @@ fn run(args: &[String]) -> Result<(), String> {
     match args {
         [flag, line, rest @ ..] if flag == "--case" => {
             let case = Case::parse(line).ok_or("not a case")?;
-            let program = rest.first().map_or("target/bin/rollplan".into(), PathBuf::from);
+            let program = rest
+                .first()
+                .map_or("target/bin/rollplan".into(), PathBuf::from);
             judge(&Proved, &program, &case, PROPERTIES, &mut Tally::default())
         }
         [program] => all(program.into(), 1),
-        [program, seed] => all(program.into(), seed.parse().map_err(|_| "SEED is a number")?),
-        _ => Err("compare PATH-TO-ROLLPLAN [SEED], or compare --case LINE [PATH-TO-ROLLPLAN]".into()),
+        [program, seed] => all(
+            program.into(),
+            seed.parse().map_err(|_| "SEED is a number")?,
+        ),
+        _ => {
+            Err("compare PATH-TO-ROLLPLAN [SEED], or compare --case LINE [PATH-TO-ROLLPLAN]".into())
+        }
     }
 }
 

@@ -26,16 +26,28 @@ impl Tally {
 
     /// The refusals met fewer than `least` times.
     pub fn rare(&self, least: u64) -> Vec<usize> {
-        (1..NUMBERS).filter(|&number| self.answers[number] < least).collect()
+        (1..NUMBERS)
+            .filter(|&number| self.answers[number] < least)
+            .collect()
     }
 
     pub fn print(&self) {
         for (group, count) in &self.groups {
             println!("  {count:>9}  {group}");
         }
-        println!("{} comparisons; {} plans held against the definitions, {} rival plans", self.cases(), self.plans, self.rivals);
-        println!("{} lists in which the clock runs past its top", self.wrapped);
-        let refusals: Vec<String> = (0..NUMBERS).map(|number| format!("{number}: {}", self.answers[number])).collect();
+        println!(
+            "{} comparisons; {} plans held against the definitions, {} rival plans",
+            self.cases(),
+            self.plans,
+            self.rivals
+        );
+        println!(
+            "{} lists in which the clock runs past its top",
+            self.wrapped
+        );
+        let refusals: Vec<String> = (0..NUMBERS)
+            .map(|number| format!("{number}: {}", self.answers[number]))
+            .collect();
         println!("answers by number: {}", refusals.join(", "));
     }
 }

@@ -51,7 +51,9 @@ impl FirstAtTies {
             done += u64::from(l.operations[i as usize]);
             let deadline = l.deadlines[i as usize].wrapping_sub(l.reference);
             let length = u64::from(row[3] - row[2]);
-            if deadline > row[2] && u64::from(deadline - row[2]) * u64::from(row[4]) == length * done {
+            if deadline > row[2]
+                && u64::from(deadline - row[2]) * u64::from(row[4]) == length * done
+            {
                 return Some((i, deadline, done as u32));
             }
         }

@@ -27,11 +27,26 @@ fn compared(planner: &dyn Planner) -> Result<u64, String> {
 fn caught(planner: &dyn Planner, reason: &str) {
     let message = compared(planner).expect_err("a wrong planner was not caught");
     assert!(message.contains(reason), "{message}");
-    let line = message.split("--case ").nth(1).expect("the message names its case");
+    let line = message
+        .split("--case ")
+        .nth(1)
+        .expect("the message names its case");
     let case = Case::parse(line).expect("a case");
-    let alone = judge(planner, Path::new("no program"), &case, compare::judge::ANSWER, &mut Tally::default());
+    let alone = judge(
+        planner,
+        Path::new("no program"),
+        &case,
+        compare::judge::ANSWER,
+        &mut Tally::default(),
+    );
     assert!(alone.is_err());
-    let proved = judge(&Proved, Path::new("no program"), &case, compare::judge::PROPERTIES, &mut Tally::default());
+    let proved = judge(
+        &Proved,
+        Path::new("no program"),
+        &case,
+        compare::judge::PROPERTIES,
+        &mut Tally::default(),
+    );
     assert_eq!(proved, Ok(()));
 }
 

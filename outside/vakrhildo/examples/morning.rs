@@ -7,7 +7,10 @@ fn main() {
     match plan(&[0, 0, 12], &[4, 20, 16], &[2, 2, 2], 0, 1, 1, &mut buffer) {
         Ok(blocks) => {
             for row in rows(&buffer, blocks) {
-                println!("reports {} to {}: from {} to {}, {} operations", row.first, row.last, row.start, row.end, row.operations);
+                println!(
+                    "reports {} to {}: from {} to {}, {} operations",
+                    row.first, row.last, row.start, row.end, row.operations
+                );
             }
         }
         Err(refusal) => println!("{refusal}"),

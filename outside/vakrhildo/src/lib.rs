@@ -45,7 +45,13 @@ impl Refusal {
 
 impl fmt::Display for Refusal {
     fn fmt(&self, f: &mut fmt::Formatter) -> fmt::Result {
-        write!(f, "refusal {} at {}: {}", self.number, self.place, self.meaning())
+        write!(
+            f,
+            "refusal {} at {}: {}",
+            self.number,
+            self.place,
+            self.meaning()
+        )
     }
 }
 
@@ -69,7 +75,13 @@ pub struct Row {
 
 /// The first `blocks` rows of a buffer; fewer where it is shorter.
 pub fn rows(buffer: &[u32], blocks: usize) -> impl Iterator<Item = Row> + '_ {
-    buffer.chunks_exact(ROW).take(blocks).map(|n| Row { first: n[0], last: n[1], start: n[2], end: n[3], operations: n[4] })
+    buffer.chunks_exact(ROW).take(blocks).map(|n| Row {
+        first: n[0],
+        last: n[1],
+        start: n[2],
+        end: n[3],
+        operations: n[4],
+    })
 }
 
 // answers::Reply, and the functions of crates/vakrhildo: a slice is a pointer and a length.
@@ -95,13 +107,21 @@ extern "C" {
         rows_length: usize,
     ) -> Reply;
 
-    fn vakrhildo_plan_roll(roll: *const u8, roll_length: usize, rows: *mut u32, rows_length: usize) -> Reply;
+    fn vakrhildo_plan_roll(
+        roll: *const u8,
+        roll_length: usize,
+        rows: *mut u32,
+        rows_length: usize,
+    ) -> Reply;
 }
 
 fn blocks(reply: Reply) -> Result<usize, Refusal> {
     match reply.number {
         0 => Ok(reply.blocks),
-        number => Err(Refusal { number, place: reply.place }),
+        number => Err(Refusal {
+            number,
+            place: reply.place,
+        }),
     }
 }
 
