@@ -204,14 +204,13 @@ pub fn take(
 {
     let last = kept.next - 1;
     if joins(arrivals, deadlines, last) {
-        weigh(arrivals, deadlines, operations, first, from, kept)
-    } else {
-        Step::Ends(End {
-            last,
-            time: deadlines[last],
-            operations: kept.sum,
-        })
+        return weigh(arrivals, deadlines, operations, first, from, kept);
     }
+    Step::Ends(End {
+        last,
+        time: deadlines[last],
+        operations: kept.sum,
+    })
 }
 
 // The search begins with the block's first report.
