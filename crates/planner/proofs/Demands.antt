@@ -1,7 +1,7 @@
 -- The demands, as theorems about `plan`: for the inspector. Each follows from the promise of `plan` alone, `PlanOutcome` (specs/Outcome.antt), which is proved of
 -- the running code for every input. x is what `plan` is handed; number, place, blocks and after are what it returns and what the row buffer then holds.
 -- Nothing is assumed.
-use Prim.Native.Nat.{ℕ, zero, suc, _≤_, _<_}
+use Prim.Native.Nat.{ℕ, zero, suc, _<_}
 use mathlib.Core.Path.{_≡_}
 use mathlib.Core.List.{List, [], _∷_, _++_}
 use mathlib.Core.Logic.{_↔_, inl, inr}
@@ -14,10 +14,10 @@ use Rattle.critical.specs.Reports.{Reports, Paces, Positive, finish, Keeps, All
 use Rattle.critical.specs.Rows.{Row, planOf, Critical}
 use Rattle.critical.specs.Cost.{sumAt, Cost, Flatter, bill, NoHigher}
 use Rattle.critical.proofs.Room.{steady}
-use Rattle.critical.proofs.Theorems.{least-sum, least-cost, one-list-of-rows, first-failure, not-both, few-blocks}
+use Rattle.critical.proofs.Theorems.{least-sum, least-cost, one-list-of-rows, first-failure, not-both}
 use Rattle.planner.specs.Offsets.{Input, reportsOf, fastestOf}
 use Rattle.planner.specs.Rules.{paceRule, wholeRules, formRules, planRule, planRules}
-use Rattle.planner.specs.Outcome.{rowAt, Written, Outcome, PlanOutcome}
+use Rattle.planner.specs.Outcome.{rowAt, Outcome, PlanOutcome}
 use Rattle.planner.proofs.Leaving.{good-pace}
 use Rattle.planner.proofs.Outcomes.{positive}
 use Rattle.planner.proofs.OneResult as One

@@ -5,8 +5,8 @@ use mathlib.Core.Path.{_≡_, refl, sym, _∙_, ap, subst}
 use mathlib.Core.List.{List, [], _∷_, _++_, map, map-append}
 use native.Mathlib.Omega.{arith}
 use native.Mathlib.Numerals.{add-one}
-use lib.ListN.{length, getD, take, drop, set, List·getD-append}
-use lib.Seq.{take-length, take-suc, take-suc-set, paste, paste-zero, paste-suc, take-paste, drop-paste, length-paste, length-paste-head, length-take-le, getD-take, getD-drop, getD-append-add}
+use lib.ListN.{length, getD, take, set, List·getD-append}
+use lib.Seq.{take-length, take-suc, take-suc-set, paste, paste-zero, paste-suc, take-paste, drop-paste, length-paste, length-take-le, getD-take, getD-drop, getD-append-add}
 
 -- ---- one more element of a list that is made by a function from another
 pub map-more : (f : ℕ → ℕ) (from to : List ℕ) (i v : ℕ) → i < length from → i < length to → v ≡ f (getD from i 0) → take i to ≡ map f (take i from) → take (i + 1) (set to i v) ≡ map f (take (i + 1) from)

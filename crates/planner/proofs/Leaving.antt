@@ -1,7 +1,7 @@
 -- What the rules leave, where none of them is given: found in their list by search, so that no proof counts a rule's place.
 -- Assumes nothing.
 use Prim.Native.Nat.{ℕ, _*_, _/_, _≤_, _<_}
-use mathlib.Core.Path.{_≡_, sym}
+use mathlib.Core.Path.{sym}
 use mathlib.Core.List.{List}
 use mathlib.Core.Logic.{inl, inr}
 use native.Mathlib.Omega.{arith}
@@ -9,14 +9,14 @@ use native.Mathlib.Decide.{ℕ-discrete}
 use lib.Dec.{ltb}
 use lib.ListN.{length, getD}
 use Rattle.answers.specs.Numbers.{width}
-use Rattle.trials.specs.Rules.{Rule, Outside}
+use Rattle.trials.specs.Rules.{Outside}
 use Rattle.trials.specs.Tries.{Tells}
 use Rattle.trials.proofs.Trying.{tells-as, tells-below}
 use Rattle.trials.proofs.Passing.{Passed, Quiet, finding, unfaulted, untrue}
 use Rattle.fraction.proofs.Scale.{cases}
 use Rattle.critical.specs.Reports.{Reports, listOf, Working}
 use Rattle.planner.specs.Rules.{lengthsRule, manyRule, shortRule, paceRule, countRules, operationsRule, arrivalRule, deadlineRule, formRules}
-use Rattle.planner.specs.Inside.{Even, Sized, Paced, Fair}
+use Rattle.planner.specs.Inside.{Sized, Paced, Fair}
 use Rattle.planner.specs.declared.Roll.{Roll}
 
 pub within-range : (low high x : ℕ) → (Outside low high x → ⊥) → (low ≤ x) × (x ≤ high)

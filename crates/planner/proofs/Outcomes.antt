@@ -1,18 +1,17 @@
 -- Outcomes: a refusal stands whatever rules follow, a silence leaves it to them; rule 9 and the rows; and offsets for readings.
 -- Assumes nothing.
-use Prim.Native.Nat.{ℕ, zero, suc, _*_, _≤_, _<_}
+use Prim.Native.Nat.{ℕ, zero, suc, _≤_, _<_}
 use mathlib.Core.Path.{_≡_, refl, sym, _∙_, ap, subst, subst₂}
 use mathlib.Core.List.{List, [], _∷_, _++_, map}
 use mathlib.Core.Logic.{inl}
 use native.Mathlib.Omega.{arith}
 use lib.ListN.{length, take}
 use Rattle.answers.specs.declared.Refusal.{Refusal}
-use Rattle.trials.specs.Rules.{Rule, Refused, Accepted}
-use Rattle.trials.specs.Tries.{Refuses}
+use Rattle.trials.specs.Rules.{Rule, Refused, Accepted, Refuses}
 use Rattle.trials.proofs.Passing.{Passed, both}
 use Rattle.trials.proofs.Trying.{refused-first, refused-later}
 use Rattle.fraction.specs.Fraction.{Fraction, over}
-use Rattle.critical.specs.Reports.{Reports, listOf, Positive, Plannable, FirstWithout}
+use Rattle.critical.specs.Reports.{Reports, listOf, Positive, Plannable}
 use Rattle.critical.specs.Rows.{planOf}
 use Rattle.critical.proofs.Theorems.{room-decides, not-both}
 use Rattle.planner.specs.Offsets.{offset, offsetsOf, paceOf}

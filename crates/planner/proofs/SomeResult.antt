@@ -10,8 +10,7 @@ use lib.ListN.{length, getD}
 use Rattle.answers.specs.Numbers.{width, numbersOf}
 use Rattle.answers.specs.declared.Row.{Row as Numbers}
 use Rattle.trials.specs.Rules.{Rule, Accepted, Refused}
-use Rattle.trials.specs.Tries.{Refuses}
-use Rattle.trials.proofs.Passing.{Passed, Quiet, finding, both}
+use Rattle.trials.proofs.Passing.{Passed, Quiet, finding}
 use Rattle.trials.proofs.Deciding.{Decides, Gives, deciding, passed-or-given}
 use Rattle.fraction.specs.Fraction.{Fraction}
 use Rattle.critical.specs.Reports.{Reports, Working, Positive, Plannable, FirstWithout}
@@ -21,9 +20,9 @@ use Rattle.critical.proofs.Chain.{chain-same, behind-same, chain-critical}
 use Rattle.critical.proofs.Exists.{exists-chain}
 use Rattle.critical.proofs.Theorems.{room-decides, plan-or-refusal, not-both}
 use Rattle.planner.specs.Offsets.{Input, offset, reportsOf, fastestOf}
-use Rattle.planner.specs.Rules.{shortRule, paceRule, operationsRule, planRule, wholeRules, formRules, planRules}
+use Rattle.planner.specs.Rules.{shortRule, paceRule, operationsRule, planRule, wholeRules, formRules}
 use Rattle.planner.specs.Outcome.{rowAt, Written, PlanOutcome}
-use Rattle.planner.specs.Inside.{putRow, Paced}
+use Rattle.planner.specs.Inside.{putRow}
 use Rattle.planner.proofs.Laws.{length-map}
 use Rattle.planner.proofs.Writing.{length-put, put-behind, row-other, row-put}
 use Rattle.planner.proofs.Leaving.{enough-room, good-pace, working}

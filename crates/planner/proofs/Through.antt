@@ -1,16 +1,16 @@
 -- The pass in whole numbers: what `pass::first_without` keeps is Q times the finish of the plan at the fastest pace.
 -- Assumes nothing.
 use Prim.Native.Nat.{ℕ, zero, suc, _+_, _*_, _≤_, _<_, max}
-use mathlib.Core.Path.{_≡_, refl, sym, _∙_, ap, subst}
+use mathlib.Core.Path.{_≡_, refl, _∙_, ap}
 use native.Mathlib.Omega.{arith}
 use native.Mathlib.Nat.{mul-le-mul, lt-suc-self}
 use native.Mathlib.Numerals.{add-one}
-use Rattle.fraction.specs.Fraction.{Fraction, _≼_, _≺_, whole, over}
+use Rattle.fraction.specs.Fraction.{over}
 use Rattle.fraction.proofs.Scale.{At, at-whole, at-over, at-le, at-lt}
 use Rattle.critical.specs.Reports.{Reports, Positive, finish, Plannable, FirstWithout}
 use Rattle.critical.proofs.Numbers.{starts, ends}
-use Rattle.critical.proofs.Scaled.{AtAll, arrivals, at-finish}
-use Rattle.critical.proofs.Room.{steady, Holds, HoldsTo, holds-more, holds-plan, stops-first}
+use Rattle.critical.proofs.Scaled.{arrivals, at-finish}
+use Rattle.critical.proofs.Room.{steady, HoldsTo, holds-more, holds-plan, stops-first}
 
 -- Q times the finish of the report before i, nil before the first
 unfoldable pub through : Reports → ℕ → ℕ → ℕ → ℕ

@@ -1,12 +1,12 @@
 -- Wrong planners, held against the promise of `plan`: each answer below is one that `PlanOutcome` does not allow. Right answers come first; any other answer of
 -- the same input is then shut out, since the promise allows one result only.
 -- Assumes nothing.
-use Prim.Native.Nat.{ℕ, _*_, _≤_, _<_}
+use Prim.Native.Nat.{ℕ, _<_}
 use mathlib.Core.Path.{_≡_, refl, sym, _∙_, ap}
 use mathlib.Core.List.{List, [], _∷_, _++_}
 use native.Mathlib.Omega.{arith}
 use native.Mathlib.Decide.{ℕ-discrete, decLt}
-use lib.ListN.{length, getD, List·getD-eq-default}
+use lib.ListN.{getD, List·getD-eq-default}
 use Rattle.trials.specs.Rules.{Falls}
 use Rattle.trials.proofs.Passing.{Passed}
 use Rattle.trials.proofs.Deciding.{dec-below, dec-equal, dec-not, dec-or, dec-falls, Decided, decides-none, decides-whole, decides-least, least-or-none, passes, passed-by}

@@ -1,16 +1,15 @@
 -- The file rules: what they leave where none is given, and the trailer's answer by them.
 -- Assumes nothing.
 use Prim.Native.Nat.{ℕ, _+_, _*_, _-_, _≤_, _<_}
-use mathlib.Core.Path.{_≡_, refl, sym, _∙_, ap, ap₂, subst}
-use mathlib.Core.List.{List, [], _∷_}
+use mathlib.Core.Path.{_≡_, refl, ap₂, subst}
+use mathlib.Core.List.{List, []}
 use mathlib.Core.Logic.{inl, inr}
 use native.Mathlib.Omega.{arith}
 use native.Mathlib.Decide.{ℕ-discrete}
 use lib.ListN.{length, take, drop}
 use denote.Enum.Declared.{tagOf}
 use Rattle.answers.specs.declared.Refusal.{Refusal}
-use Rattle.trials.specs.Rules.{Refused, Accepted}
-use Rattle.trials.specs.Tries.{Refuses}
+use Rattle.trials.specs.Rules.{Refused, Refuses}
 use Rattle.trials.proofs.Passing.{Passed, Quiet, finding, untrue, more}
 use Rattle.trials.proofs.Single.{not-refused}
 use Rattle.fraction.proofs.Scale.{cases}

@@ -1,7 +1,7 @@
 -- What the reader hands back, by the trailer's answer.
 -- Assumes nothing.
 use Prim.Native.Nat.{ℕ}
-use mathlib.Core.Path.{_≡_, refl, sym, _∙_, subst}
+use mathlib.Core.Path.{_≡_, refl, subst}
 use mathlib.Core.List.{List}
 use Rattle.answers.specs.declared.Refusal.{Refusal}
 use Rattle.trials.proofs.Single.{one-refusal, not-refused}

@@ -1,13 +1,11 @@
 -- The promises of the roll's reader and of `plan_roll` allow one result for each string of bytes, and the file rules decide each.
 -- Assumes nothing.
-use Prim.Native.Nat.{ℕ, _+_, _*_, _-_}
-use mathlib.Core.Path.{_≡_, refl, sym, _∙_, ap}
+use Prim.Native.Nat.{ℕ, _-_}
+use mathlib.Core.Path.{_≡_, sym, _∙_, ap}
 use mathlib.Core.List.{List}
 use mathlib.Core.Logic.{_⊎_, inl, inr, ⊎-elim}
 use native.Mathlib.Decide.{ℕ-discrete}
 use lib.ListN.{length, getD}
-use Rattle.trials.specs.Rules.{Accepted, Refused}
-use Rattle.trials.specs.Tries.{Refuses}
 use Rattle.trials.proofs.Passing.{Passed, last-part}
 use Rattle.trials.proofs.Single.{Soles, singly, not-refused, one-refuses}
 use Rattle.trials.proofs.Deciding.{Decidable, Decides, Gives, deciding, passed-or-given}

@@ -1,19 +1,19 @@
 -- The outcome of a roll: of a trailer that is refused, and of the list in it.
 -- Assumes nothing.
-use Prim.Native.Nat.{ℕ, _+_, _*_, _-_, _≤_, _<_}
+use Prim.Native.Nat.{ℕ, _+_, _*_, _-_, _≤_}
 use mathlib.Core.Path.{_≡_, refl, sym, _∙_, ap, subst}
-use mathlib.Core.List.{List, _++_}
+use mathlib.Core.List.{List}
 use native.Mathlib.Omega.{arith}
 use denote.Enum.Declared.{tagOf}
-use lib.ListN.{length, take, drop, length-drop}
+use lib.ListN.{length, drop, length-drop}
 use lib.Seq.{length-take-le}
 use Rattle.answers.specs.Numbers.{numberOf, placeOf, blocksOf}
 use Rattle.answers.specs.declared.Answer.{Answer}
 use Rattle.answers.specs.declared.Answer.the-variants.{Refused}
 use Rattle.answers.specs.declared.Refusal.{Refusal}
-use Rattle.trials.specs.Tries.{Refuses, After}
+use Rattle.trials.specs.Rules.{Refuses}
+use Rattle.trials.specs.Tries.{After}
 use Rattle.trials.specs.declared.Verdict.{Verdict}
-use Rattle.trials.specs.declared.Verdict.the-variants.{Silent}
 use Rattle.trials.proofs.Passing.{Passed, Quiet, finding}
 use Rattle.planner.specs.Offsets.{Input, reportsOf, fastestOf}
 use Rattle.planner.specs.Rules.{manyRule, countRules, wholeRules, reportRules, planRules}

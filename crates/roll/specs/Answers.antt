@@ -3,8 +3,7 @@
 use Prim.Native.Nat.{ℕ}
 use mathlib.Core.Path.{_≡_}
 use mathlib.Core.List.{List, []}
-use Rattle.trials.specs.Rules.{Refused as Given, Accepted}
-use Rattle.trials.specs.Tries.{Refuses}
+use Rattle.trials.specs.Rules.{Refused as Given, Accepted, Refuses}
 use Rattle.roll.specs.Format.{countOf, termsOf, fileRules, recordsOf}
 use Rattle.roll.specs.declared.Trailer.{Trailer}
 use Rattle.roll.specs.declared.Numbers.{Numbers}

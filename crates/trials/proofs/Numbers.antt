@@ -1,13 +1,13 @@
 -- Which rule of a list gives a number: rules of other numbers are passed by.
 -- Assumes nothing.
-use Prim.Native.Nat.{ℕ, _≤_, _<_}
-use mathlib.Core.Path.{_≡_, refl, sym, subst}
-use mathlib.Core.Bool.{Bool, true, false, not, _&&_}
+use Prim.Native.Nat.{ℕ}
+use mathlib.Core.Path.{_≡_}
+use mathlib.Core.Bool.{false}
 use mathlib.Core.List.{List, [], _∷_, _++_}
 use mathlib.Core.Logic.{inl, inr, ⊎-elim}
-use lib.Dec.{T, eqb, eqb-refl}
+use lib.Dec.{eqb}
 use borrow.Author.Tests.{eqb-false}
-use Rattle.trials.specs.Rules.{Rule, rule, Silent, Refused, Accepted}
+use Rattle.trials.specs.Rules.{Rule, rule, Refused, Accepted}
 use Rattle.trials.proofs.Passing.{Passed, Quiet}
 
 -- rules that are silent do not refuse

@@ -1,15 +1,13 @@
 -- One law for every search for a fault: a loop that tests place after place has passed those before i, none of them at fault.
 -- Assumes nothing.
 use Prim.Native.Nat.{ℕ, zero, suc, _+_, _-_, _≤_, _<_}
-use mathlib.Core.Path.{_≡_, refl, subst}
-use mathlib.Core.Bool.{Bool, true, false}
-use mathlib.Core.Logic.{inl, inr, ⊎-elim}
+use mathlib.Core.Path.{_≡_, subst}
+use mathlib.Core.Logic.{⊎-elim}
 use native.Mathlib.Omega.{arith}
 use native.Mathlib.Nat.{not-suc-le-zero}
-use native.Mathlib.Numerals.{add-one}
 use borrow.Author.Count.{below-more}
 use Rattle.trials.specs.Rules.{Outside, Falls}
-use Rattle.trials.specs.Tries.{Tells, FirstOr}
+use Rattle.trials.specs.Tries.{FirstOr}
 
 pub record Scanned (Fault : ℕ → Type 0) (i : ℕ) : Type 0 where
   pub none-before : (k : ℕ) → k < i → Fault k → ⊥

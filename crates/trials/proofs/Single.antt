@@ -1,14 +1,14 @@
 -- A list of rules gives one refusal at most; and the searches and tests that rules are decided by have one result each.
 -- Assumes nothing.
-use Prim.Native.Nat.{ℕ, _≤_, _<_}
+use Prim.Native.Nat.{ℕ}
 use mathlib.Core.Path.{_≡_, refl, sym, _∙_, ap}
 use mathlib.Core.Bool.{Bool, true, false}
 use mathlib.Core.List.{List, [], _∷_}
 use mathlib.Core.Logic.{inl, inr}
 use native.Mathlib.Omega.{arith}
 use native.Mathlib.Decide.{decLt}
-use Rattle.trials.specs.Rules.{Rule, rule, Whole, Least, Refused, Accepted}
-use Rattle.trials.specs.Tries.{Tells, FirstOr, OrIf, Refuses, AfterIs, After}
+use Rattle.trials.specs.Rules.{Rule, rule, Whole, Least, Refused, Accepted, Refuses}
+use Rattle.trials.specs.Tries.{Tells, FirstOr, OrIf, AfterIs, After}
 use Rattle.answers.specs.declared.Refusal.{Refusal}
 use Rattle.trials.specs.declared.Verdict.{Verdict}
 use Rattle.trials.specs.declared.Verdict.the-variants.{Silent, Given}

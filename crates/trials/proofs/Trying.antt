@@ -1,6 +1,6 @@
 -- Rules tried one behind the other.
 -- Assumes nothing.
-use Prim.Native.Nat.{ℕ, zero, suc, _≤_, _<_}
+use Prim.Native.Nat.{ℕ, _≤_, _<_}
 use mathlib.Core.Path.{_≡_, refl, sym, _∙_, subst}
 use mathlib.Core.Bool.{Bool, true, false, not, true≢false}
 use mathlib.Core.List.{List, [], _∷_, _++_}
@@ -9,8 +9,8 @@ use native.Mathlib.Omega.{arith}
 use lib.Dec.{ltb, eqb}
 use borrow.Author.Tests.{ltb-true, ltb-false, eqb-true, eqb-false, not-true, not-false}
 use Rattle.answers.specs.declared.Refusal.{Refusal}
-use Rattle.trials.specs.Rules.{Rule, rule, Whole, Least, Silent as SilentRule, Refused, Accepted}
-use Rattle.trials.specs.Tries.{Tells, FirstOr, orIf, OrIf, Refuses, AfterIs, After}
+use Rattle.trials.specs.Rules.{Rule, rule, Whole, Least, Silent as SilentRule, Refused, Accepted, Refuses}
+use Rattle.trials.specs.Tries.{Tells, FirstOr, orIf, OrIf, AfterIs, After}
 use Rattle.trials.specs.declared.Verdict.{Verdict}
 use Rattle.trials.specs.declared.Verdict.the-variants.{Silent, Given}
 use Rattle.trials.proofs.Passing.{Passed, both}

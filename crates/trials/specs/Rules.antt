@@ -1,9 +1,10 @@
 -- Rules, tried in their order: what a rule is, and which refusal a list of rules gives.
 -- Assumes nothing.
-use Prim.Native.Nat.{ℕ, zero, suc, _≤_, _<_}
+use Prim.Native.Nat.{ℕ, zero, suc, _<_}
 use mathlib.Core.Path.{_≡_}
 use mathlib.Core.List.{List, [], _∷_}
 use mathlib.Core.Logic.{_⊎_}
+use Rattle.answers.specs.declared.Refusal.{Refusal}
 
 -- A rule: its number, and the place with which it is given (it is given exactly when there is one).
 pub record Rule : Type 1 where
@@ -40,6 +41,11 @@ Silent r = (place : ℕ) → r .given place → ⊥
 unfoldable pub Refused : List Rule → ℕ → ℕ → Type 0
 Refused [] number place = ⊥
 Refused (r ∷ rs) number place = ((number ≡ r .number) × r .given place) ⊎ (Silent r × Refused rs number place)
+
+-- The refusal is the one that the rules give.
+pub record Refuses (rules : List Rule) (refusal : Refusal) : Type 0 where
+  pub refused : Refused rules (refusal .number) (refusal .place)
+  pub numbered : 0 < refusal .number
 
 -- None is given.
 unfoldable pub Accepted : List Rule → Type 0

@@ -1,11 +1,10 @@
--- What the functions that try rules tell each other. No promise of an entry point that plans cites it.
+-- What functions that try rules tell each other: tests, searches for a fault, and the verdict of rules one behind the other.
 -- Assumes nothing.
 use Prim.Native.Nat.{ℕ, _≤_, _<_}
 use mathlib.Core.Path.{_≡_}
 use mathlib.Core.Bool.{Bool, true, false}
 use mathlib.Core.List.{List}
-use Rattle.answers.specs.declared.Refusal.{Refusal}
-use Rattle.trials.specs.Rules.{Rule, Refused, Accepted}
+use Rattle.trials.specs.Rules.{Rule, Accepted, Refuses}
 use Rattle.trials.specs.declared.Verdict.{Verdict}
 use Rattle.trials.specs.declared.Verdict.the-variants.{Silent, Given}
 
@@ -28,11 +27,6 @@ orIf Silent false number place = Silent
 
 pub record OrIf (so-far : Verdict) (given : Bool) (number place : ℕ) (r : Verdict) : Type 0 where
   pub is : r ≡ orIf so-far given number place
-
--- The refusal is the one that the rules give.
-pub record Refuses (rules : List Rule) (refusal : Refusal) : Type 0 where
-  pub refused : Refused rules (refusal .number) (refusal .place)
-  pub numbered : 0 < refusal .number
 
 -- Behind a refusal nothing is tried; behind a silence the rules are.
 unfoldable pub AfterIs : Verdict → List Rule → Verdict → Type 0

@@ -1,7 +1,5 @@
 -- `roll::handed_up` meets its contract: by the case of what was found.
 -- Assumes nothing.
-use mathlib.Core.Path.{refl, sym, subst}
-use Rattle.roll.specs.Answers.{HandedUp}
 use Rattle.roll.proofs.Rolls.{not-handed, handed}
 use borrow.Author.Needs.{needs}
 use Rattle.roll.proofs.handed_up.Statement.{statement}

@@ -1,9 +1,7 @@
 -- `roll::unmarked` meets its contract: the mark, byte by byte.
 -- Assumes nothing.
 use borrow.Author.Needs.{needs}
-use mathlib.Core.Path.{_≡_}
 use Rattle.trials.proofs.Trying.{tells-yes, tells-as, tells-different}
-use Rattle.roll.specs.Format.{Marked}
 use Rattle.roll.proofs.unmarked.Statement.{statement}
 use Rattle.roll.proofs.unmarked.Tie as tie
 

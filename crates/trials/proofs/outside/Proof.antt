@@ -1,6 +1,5 @@
 -- `trials::outside` meets its contract.
 -- Assumes nothing.
-use borrow.Author.Needs.{needs}
 use native.Mathlib.Omega.{arith}
 use Rattle.trials.proofs.Trying.{tells-first, tells-second, tells-below}
 use Rattle.trials.proofs.outside.Statement.{statement}

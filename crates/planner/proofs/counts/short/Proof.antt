@@ -1,6 +1,5 @@
 -- `planner::counts::short` meets its contract.
 -- Assumes nothing.
-use borrow.Author.Needs.{needs}
 use Rattle.planner.proofs.Leaving.{tells-short}
 use Rattle.planner.proofs.counts.short.Statement.{statement}
 use Rattle.planner.proofs.counts.short.Tie as tie

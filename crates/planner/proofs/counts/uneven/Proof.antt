@@ -1,6 +1,5 @@
 -- `planner::counts::uneven` meets its contract.
 -- Assumes nothing.
-use borrow.Author.Needs.{needs}
 use Rattle.trials.proofs.Trying.{tells-first, tells-second, tells-different}
 use Rattle.planner.proofs.counts.uneven.Statement.{statement}
 use Rattle.planner.proofs.counts.uneven.Tie as tie

@@ -2,11 +2,11 @@
 -- small, and the pass holds at every report passed. The measure is what is left of the list.
 -- Assumes nothing.
 use borrow.Author.Needs.{needs}
-use Prim.Native.Nat.{ℕ, _+_, _*_, _≤_, _<_, _-_, max}
+use Prim.Native.Nat.{_+_, _*_, _≤_, _-_, max}
 use mathlib.Core.Path.{_≡_, _∙_, ap, subst}
 use native.Mathlib.Nat.{not-suc-le-zero}
 use native.Mathlib.Omega.{arith}
-use lib.ListN.{length, getD}
+use lib.ListN.{length}
 use Rattle.fraction.specs.Fraction.{over}
 use Rattle.critical.specs.Reports.{Reports, listOf}
 use Rattle.critical.proofs.Room.{HoldsTo}

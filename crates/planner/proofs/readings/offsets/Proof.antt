@@ -3,10 +3,10 @@
 use borrow.Author.Needs.{needs}
 use native.Mathlib.Omega.{arith}
 use Rattle.planner.proofs.Laws.{map-more, map-done}
-use Prim.Native.Nat.{ℕ, _≤_, _<_, _-_}
+use Prim.Native.Nat.{_≤_, _-_}
 use mathlib.Core.Path.{_≡_}
 use mathlib.Core.List.{map}
-use lib.ListN.{length, getD, take}
+use lib.ListN.{length, take}
 use Rattle.planner.specs.Offsets.{offset}
 use Rattle.planner.proofs.readings.offsets.Statement.{statement}
 use Rattle.planner.proofs.readings.offsets.Tie as tie

@@ -1,8 +1,7 @@
 -- `roll::bytes::column` meets its contract. The invariant: the front of out holds the numbers of the records passed. The measure is what is left of them.
 -- Assumes nothing.
 use borrow.Author.Needs.{needs}
-use native.Mathlib.Omega.{arith}
-use Prim.Native.Nat.{ℕ, _+_, _*_, _≤_, _<_, _-_}
+use Prim.Native.Nat.{_+_, _*_, _≤_, _-_}
 use mathlib.Core.Path.{_≡_}
 use lib.ListN.{length, take}
 use Rattle.roll.specs.Format.{listed, u32At}
