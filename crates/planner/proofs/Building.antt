@@ -18,7 +18,8 @@ use Rattle.critical.proofs.Cover.{behind-zero, behind-suc}
 use Rattle.critical.proofs.Chain.{begins, Link, Chain, chain-more, chain-critical}
 use Rattle.critical.proofs.Exists.{ready}
 use Rattle.planner.specs.Outcome.{rowAt}
-use Rattle.planner.specs.Inside.{Fair, EndIs, BlocksIn, putRow}
+use Rattle.rules.specs.Leaves.{Fair}
+use Rattle.planner.specs.Inside.{EndIs, BlocksIn, putRow}
 use Rattle.planner.specs.declared.search.End.{End}
 use Rattle.planner.proofs.Writing.{length-put, put-behind, row-other, row-put}
 

@@ -15,10 +15,11 @@ use Rattle.critical.specs.Rows.{Row, planOf, Critical}
 use Rattle.critical.specs.Cost.{sumAt, Cost, Flatter, bill, NoHigher}
 use Rattle.critical.proofs.Room.{steady}
 use Rattle.critical.proofs.Theorems.{least-sum, least-cost, one-list-of-rows, first-failure, not-both}
-use Rattle.planner.specs.Offsets.{Input, reportsOf, fastestOf}
-use Rattle.planner.specs.Rules.{paceRule, wholeRules, formRules, planRule, planRules}
+use Rattle.rules.specs.Offsets.{Input, reportsOf, fastestOf}
+use Rattle.rules.specs.Rules.{paceRule, wholeRules, formRules, planRule, planRules}
 use Rattle.planner.specs.Outcome.{rowAt, Outcome, PlanOutcome}
-use Rattle.planner.proofs.Leaving.{good-pace}
+use Rattle.rules.proofs.Leaving.{good-pace}
+use Rattle.rules.proofs.Table.{works}
 use Rattle.planner.proofs.Outcomes.{positive}
 use Rattle.planner.proofs.OneResult as One
 use Rattle.planner.proofs.SomeResult as Some
@@ -66,7 +67,7 @@ pub and-no-others :
     (blocks ≡ m) × ((k : ℕ) → k < blocks → rowAt after k ≡ rows k)
 unfolding Outcome
 and-no-others x place blocks after fastest m rows o c =
-    one-list-of-rows (reportsOf x) (fastestOf x) fastest blocks m (rowAt after) rows (One.works x (record { accepted = o .0 })) (o .2 .rows) c
+    one-list-of-rows (reportsOf x) (fastestOf x) fastest blocks m (rowAt after) rows (works x (record { accepted = o .0 })) (o .2 .rows) c
 
 -- A well-formed list with room: none of the rules 1 to 8 is given.
 abbrev pub WellFormed : Input → Type 0

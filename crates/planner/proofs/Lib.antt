@@ -3,7 +3,6 @@ pub mod Through
 pub mod Searching
 pub mod Writing
 pub mod Building
-pub mod Leaving
 pub mod Outcomes
 pub mod OneResult
 pub mod SomeResult

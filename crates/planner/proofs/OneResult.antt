@@ -2,46 +2,24 @@
 -- Assumes nothing.
 use Prim.Native.Nat.{ℕ, zero, suc, _+_, _*_, _/_, _%_, _<_}
 use mathlib.Core.Path.{_≡_, refl, sym, _∙_, ap, subst}
-use mathlib.Core.List.{List, _∷_}
+use mathlib.Core.List.{List}
 use native.Mathlib.Omega.{arith}
 use lib.ListN.{length, getD}
 use lib.Seq.{ext-getD}
 use Rattle.answers.specs.Numbers.{width}
 use Rattle.trials.specs.Rules.{Rule}
-use Rattle.trials.specs.Tries.{After}
-use Rattle.trials.specs.declared.Verdict.{Verdict}
-use Rattle.trials.proofs.Passing.{Passed, Quiet, finding}
-use Rattle.trials.proofs.Single.{Single, Soles, one-refusal, not-refused, one-after, singly}
+use Rattle.trials.proofs.Passing.{Passed}
+use Rattle.trials.proofs.Single.{Soles, one-refusal, not-refused}
 use Rattle.fraction.specs.Fraction.{Fraction}
 use Rattle.fraction.proofs.Scale.{cases}
 use Rattle.critical.specs.Reports.{Reports, Working}
 use Rattle.critical.specs.Rows.{Row}
-use Rattle.critical.proofs.Theorems.{one-list-of-rows, one-place}
-use Rattle.planner.specs.Offsets.{Input, reportsOf, fastestOf}
-use Rattle.planner.specs.declared.Roll.{Roll}
-use Rattle.planner.specs.Rules.{countRules, operationsRule, planRule, planRules}
+use Rattle.critical.proofs.Theorems.{one-list-of-rows}
+use Rattle.rules.specs.Offsets.{Input, reportsOf, fastestOf}
+use Rattle.rules.specs.Rules.{planRules}
+use Rattle.rules.proofs.Table.{single-rules, works}
 use Rattle.planner.specs.Outcome.{numberAt, rowAt, Written, Outcome, PlanOutcome}
-use Rattle.planner.proofs.Leaving.{working}
-
--- ---- one refusal
--- rule 9 is given with one place, as the others are
-pub one-plan-rule : {ℓ : Reports} {f : Fraction} {qs : List Rule} → Soles qs → Soles (planRule ℓ f ∷ qs)
-unfolding Single
-one-plan-rule {ℓ} {f} s = record { single = (one-place ℓ f, s .single) }
-
-pub single-rules : (x : Input) → Soles (planRules x)
-single-rules x = search (singly, one-plan-rule) depth 40
-
--- The promise of `count_rules` allows one verdict.
-pub one-count-verdict :
-    (so-far : Verdict) (arrivals deadlines operations : ℕ) (terms : Roll) (room : ℕ) (r s : Verdict) →
-    After so-far (countRules arrivals deadlines operations terms room) r → After so-far (countRules arrivals deadlines operations terms room) s → r ≡ s
-one-count-verdict so-far arrivals deadlines operations terms room r s = one-after so-far r s (search singly depth 40)
-
--- ---- one buffer
--- an accepted list has reports with something to do
-pub works : (x : Input) → Passed (planRules x) → Working (reportsOf x)
-works x p = let work : Quiet (operationsRule (reportsOf x)) = search finding depth 40 in working (reportsOf x) work
+use Rattle.rules.proofs.Leaving.{working}
 
 -- equal rows have equal numbers in the buffers
 row-numbers : (a b : List ℕ) (k : ℕ) → rowAt a k ≡ rowAt b k → (j : ℕ) → j < width → numberAt a k j ≡ numberAt b k j

@@ -14,11 +14,12 @@ use Rattle.fraction.specs.Fraction.{Fraction, over}
 use Rattle.critical.specs.Reports.{Reports, listOf, Positive, Plannable}
 use Rattle.critical.specs.Rows.{planOf}
 use Rattle.critical.proofs.Theorems.{room-decides, not-both}
-use Rattle.planner.specs.Offsets.{offset, offsetsOf, paceOf}
-use Rattle.planner.specs.Rules.{planRule, reportRules}
+use Rattle.rules.specs.Offsets.{offset, offsetsOf, paceOf}
+use Rattle.rules.specs.Rules.{planRule, reportRules}
 use Rattle.planner.specs.Outcome.{rowAt, Outcome, Written}
-use Rattle.planner.specs.Inside.{Sized, Paced, PassEnds, BlocksIn}
-use Rattle.planner.specs.declared.Roll.{Roll}
+use Rattle.rules.specs.Leaves.{Sized, Paced}
+use Rattle.planner.specs.Inside.{PassEnds, BlocksIn}
+use Rattle.rules.specs.declared.Roll.{Roll}
 use Rattle.planner.proofs.Laws.{length-map}
 
 module _ (ℓ : Reports) (f : Fraction) (before : List ℕ) where

@@ -17,7 +17,8 @@ use Rattle.fraction.proofs.Scale.{cases}
 use Rattle.critical.specs.Reports.{Reports, listOf}
 use Rattle.critical.proofs.Lines.{span, span-one, span-more, span-pos, sum-bound}
 use Rattle.critical.proofs.Search.{Stretch, Scan, Best, _≻_, _≽_, up, down, best-keep, best-take, floor, floor-in, floor-end, stretch-from, high, low, scan-first, scan-more, finds-rise, finds-fall, finds-whole}
-use Rattle.planner.specs.Inside.{Fair, Joins, FloorIs, MarkIs, KeptIn, KeptIs, Weighed, EndIs, StepIs}
+use Rattle.rules.specs.Leaves.{Fair}
+use Rattle.planner.specs.Inside.{Joins, FloorIs, MarkIs, KeptIn, KeptIs, Weighed, EndIs, StepIs}
 use Rattle.planner.specs.declared.search.Mark.{Mark}
 use Rattle.planner.specs.declared.search.Kept.{Kept}
 use Rattle.planner.specs.declared.search.End.{End}

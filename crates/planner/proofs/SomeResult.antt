@@ -11,7 +11,7 @@ use Rattle.answers.specs.Numbers.{width, numbersOf}
 use Rattle.answers.specs.declared.Row.{Row as Numbers}
 use Rattle.trials.specs.Rules.{Rule, Accepted, Refused}
 use Rattle.trials.proofs.Passing.{Passed, Quiet, finding}
-use Rattle.trials.proofs.Deciding.{Decides, Gives, deciding, passed-or-given}
+use Rattle.trials.proofs.Deciding.{Gives, passed-or-given}
 use Rattle.fraction.specs.Fraction.{Fraction}
 use Rattle.critical.specs.Reports.{Reports, Working, Positive, Plannable, FirstWithout}
 use Rattle.critical.specs.Rows.{Row, behind}
@@ -19,13 +19,14 @@ use Rattle.critical.proofs.Cover.{few-rows}
 use Rattle.critical.proofs.Chain.{chain-same, behind-same, chain-critical}
 use Rattle.critical.proofs.Exists.{exists-chain}
 use Rattle.critical.proofs.Theorems.{room-decides, plan-or-refusal, not-both}
-use Rattle.planner.specs.Offsets.{Input, offset, reportsOf, fastestOf}
-use Rattle.planner.specs.Rules.{shortRule, paceRule, operationsRule, planRule, wholeRules, formRules}
+use Rattle.rules.specs.Offsets.{Input, offset, reportsOf, fastestOf}
+use Rattle.rules.specs.Rules.{shortRule, paceRule, operationsRule, planRule, wholeRules, formRules}
+use Rattle.rules.proofs.Table.{decided}
 use Rattle.planner.specs.Outcome.{rowAt, Written, PlanOutcome}
 use Rattle.planner.specs.Inside.{putRow}
 use Rattle.planner.proofs.Laws.{length-map}
 use Rattle.planner.proofs.Writing.{length-put, put-behind, row-other, row-put}
-use Rattle.planner.proofs.Leaving.{enough-room, good-pace, working}
+use Rattle.rules.proofs.Leaving.{enough-room, good-pace, working}
 use Rattle.planner.proofs.Outcomes.{hands-up, goes-on, plans, positive}
 
 -- ---- rows in a buffer
@@ -81,10 +82,6 @@ written ℓ f b working pos plan room =
     )
 
 -- ---- the rules, decided
--- the rules of form can be decided
-unfoldable pub decided : (x : Input) → Decides (wholeRules x ++ formRules (reportsOf x))
-decided x = search deciding depth 40
-
 module _ (x : Input) where
   abbrev ℓ : Reports
   ℓ = reportsOf x

@@ -14,11 +14,11 @@ use Rattle.fraction.specs.Fraction.{whole, over, plus, times, later}
 use Rattle.critical.specs.Reports.{start}
 use Rattle.critical.specs.Rows.{holder, behind, sum, Critical}
 use Rattle.critical.proofs.Tests.{test-critical}
-use Rattle.planner.specs.Offsets.{Input, reportsOf, fastestOf}
-use Rattle.planner.specs.Rules.{wholeRules, formRules}
+use Rattle.rules.specs.Offsets.{Input, reportsOf, fastestOf}
+use Rattle.rules.specs.Rules.{wholeRules, formRules}
 use Rattle.planner.specs.Outcome.{rowAt, PlanOutcome}
 use Rattle.planner.proofs.Outcomes.{accepts}
-use Rattle.planner.proofs.SomeResult.{decided}
+use Rattle.rules.proofs.Table.{decided}
 use Rattle.planner.proofs.OneResult.{one-result}
 use Rattle.planner.proofs.Demands.{a-refusal-writes-nothing}
 

@@ -15,42 +15,13 @@ use Rattle.answers.specs.Numbers.{numberOf, placeOf, blocksOf, width}
 use Rattle.trials.specs.Rules.{Rule}
 use Rattle.planner.specs.Outcome.{rowAt, Outcome}
 use Rattle.answers.specs.declared.Answer.{Answer}
-use Rattle.planner.specs.Offsets.{paceOf}
-use Rattle.planner.specs.declared.Roll.{Roll}
+use Rattle.rules.specs.Offsets.{paceOf}
+use Rattle.rules.specs.declared.Roll.{Roll}
 use Rattle.planner.specs.declared.search.Mark.{Mark}
 use Rattle.planner.specs.declared.search.Kept.{Kept}
 use Rattle.planner.specs.declared.search.End.{End}
 use Rattle.planner.specs.declared.search.Step.{Step}
 use Rattle.planner.specs.declared.search.Step.the-variants.{Ends, Goes}
-
--- Lists of offsets and operations that have passed rules 1, 2 and 5 to 7.
-pub record Fair (arrivals deadlines operations : List ℕ) : Type 0 where
-  pub deadlines-long : length deadlines ≡ length arrivals
-  pub operations-long : length operations ≡ length arrivals
-  pub few : length arrivals ≤ 1024
-  pub some : (i : ℕ) → i < length arrivals → 1 ≤ getD operations i 0
-  pub work : (i : ℕ) → i < length arrivals → getD operations i 0 ≤ 65535
-  pub arrive : (i : ℕ) → i < length arrivals → getD arrivals i 0 ≤ 2147483647
-  pub due : (i : ℕ) → i < length arrivals → getD deadlines i 0 ≤ 2147483647
-
--- Lists that have passed rule 1.
-pub record Even (arrivals deadlines operations : List ℕ) : Type 0 where
-  pub deadlines-long : length deadlines ≡ length arrivals
-  pub operations-long : length operations ≡ length arrivals
-
--- Lists and a buffer that have passed rules 1 to 3.
-pub record Sized (arrivals deadlines operations buffer : List ℕ) : Type 0 where
-  pub deadlines-long : length deadlines ≡ length arrivals
-  pub operations-long : length operations ≡ length arrivals
-  pub few : length arrivals ≤ 1024
-  pub room : width * length arrivals ≤ length buffer
-
--- Terms that have passed rule 4.
-pub record Paced (terms : Roll) : Type 0 where
-  pub p-some : 1 ≤ terms .p
-  pub p-most : terms .p ≤ 65535
-  pub q-some : 1 ≤ terms .q
-  pub q-most : terms .q ≤ 65535
 
 -- Where the pass at the fastest pace ends: at the first report without a plan, or behind the list.
 pub record PassEnds (ℓ : Reports) (fastest : Fraction) (r : ℕ) : Type 0 where

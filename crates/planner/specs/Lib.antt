@@ -1,4 +1,2 @@
-pub mod Offsets
-pub mod Rules
 pub mod Outcome
 pub mod Inside

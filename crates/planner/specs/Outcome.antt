@@ -7,10 +7,10 @@ use lib.ListN.{length, getD}
 use Rattle.fraction.specs.Fraction.{Fraction}
 use Rattle.critical.specs.Reports.{Reports}
 use Rattle.critical.specs.Rows.{Row, Critical}
-use Rattle.planner.specs.Offsets.{Input, reportsOf, fastestOf}
+use Rattle.rules.specs.Offsets.{Input, reportsOf, fastestOf}
 use Rattle.answers.specs.Numbers.{width}
 use Rattle.trials.specs.Rules.{Rule, Refused, Accepted}
-use Rattle.planner.specs.Rules.{planRules}
+use Rattle.rules.specs.Rules.{planRules}
 
 -- Number j of row k of a buffer.
 abbrev pub numberAt : List ℕ → ℕ → ℕ → ℕ

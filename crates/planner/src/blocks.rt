@@ -7,7 +7,8 @@ ghost use Prim.Native.Nat.{_+_, _*_, _≤_, _<_, max};
 ghost use lib.ListN.{length};
 ghost use Rattle.answers.specs.Numbers.{width, numbersOf};
 ghost use Rattle.critical.specs.Reports.{listOf};
-ghost use Rattle.planner.specs.Inside.{BlocksIn, Fair, putRow};
+ghost use Rattle.rules.specs.Leaves.{Fair};
+ghost use Rattle.planner.specs.Inside.{BlocksIn, putRow};
 
 // The later of two times.
 fn later(a: u32, b: u32) -> u32

@@ -1,12 +1,12 @@
 // Rules 5 to 8, tried in their order (specs/Rules.antt), as rules 1 to 4 are in counts.rt.
-use crate::Report;
 use answers::Refusal;
+use rules::Report;
 use trials::Verdict;
 use trials::or_if;
 ghost use Rattle.trials.specs.Tries.{After};
 ghost use Rattle.critical.specs.Reports.{listOf};
-ghost use Rattle.planner.specs.Rules.{formRules};
-ghost use Rattle.planner.specs.Inside.{Even};
+ghost use Rattle.rules.specs.Rules.{formRules};
+ghost use Rattle.rules.specs.Leaves.{Even};
 
 // Rules 5 to 8, of offsets and operations, each over the whole list before the next.
 pub fn form_rules(

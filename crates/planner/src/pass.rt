@@ -1,12 +1,13 @@
 // The pass at the fastest pace: it decides whether there is an allowed plan, before a row is
 // written. Times are kept multiplied by Q, so they are whole.
-use crate::Report;
-use crate::Roll;
+use rules::Report;
+use rules::Roll;
 ghost use mathlib.Core.Path.{_≡_};
 ghost use Prim.Native.Nat.{_+_, _*_, _^_, _≤_, _<_, max};
 ghost use Rattle.critical.specs.Reports.{listOf};
-ghost use Rattle.planner.specs.Offsets.{paceOf};
-ghost use Rattle.planner.specs.Inside.{Fair, Paced, PassEnds};
+ghost use Rattle.rules.specs.Offsets.{paceOf};
+ghost use Rattle.rules.specs.Leaves.{Fair, Paced};
+ghost use Rattle.planner.specs.Inside.{PassEnds};
 
 // Q times the finish of a report, from Q times the finish of the one before.
 fn finish(report: Report, terms: Roll, before: u64) -> u64

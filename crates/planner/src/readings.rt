@@ -3,7 +3,7 @@ ghost use mathlib.Core.Path.{_≡_};
 ghost use mathlib.Core.List.{map};
 ghost use Prim.Native.Nat.{_≤_};
 ghost use lib.ListN.{length, take};
-ghost use Rattle.planner.specs.Offsets.{offset};
+ghost use Rattle.rules.specs.Offsets.{offset};
 
 // A reading's offset: the clock runs past its top and goes on from 0.
 pub fn offset(reading: u32, reference: u32) -> u32

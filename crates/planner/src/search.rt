@@ -7,7 +7,8 @@ ghost use Prim.Native.Nat.{_+_, _*_, _-_, _<_, min};
 ghost use lib.Dec.{ltb};
 ghost use lib.ListN.{length};
 ghost use Rattle.critical.specs.Reports.{listOf};
-ghost use Rattle.planner.specs.Inside.{Fair, FloorIs, Joins, KeptIs, StepIs, Weighed};
+ghost use Rattle.rules.specs.Leaves.{Fair};
+ghost use Rattle.planner.specs.Inside.{FloorIs, Joins, KeptIs, StepIs, Weighed};
 
 // A high or a low: the report, and the pace from the block's start to a time of that report.
 pub struct Mark {

@@ -1,20 +1,21 @@
 // What is left once the whole list is in order: the rules of its reports, on offsets, and the plan.
-use crate::Roll;
 use crate::blocks;
 use crate::forms;
 use crate::pass;
 use crate::readings;
 use answers::Answer;
 use answers::Refusal;
+use rules::Roll;
 use trials::Verdict;
 ghost use mathlib.Core.List.{[], _∷_};
 ghost use Prim.Native.Nat.{_*_, _≤_};
 ghost use lib.ListN.{length};
 ghost use Rattle.answers.specs.Numbers.{width};
 ghost use Rattle.critical.specs.Reports.{listOf};
-ghost use Rattle.planner.specs.Offsets.{offsetsOf, paceOf};
-ghost use Rattle.planner.specs.Rules.{planRule, reportRules};
-ghost use Rattle.planner.specs.Inside.{Fair, Paced, Settles, Sized};
+ghost use Rattle.rules.specs.Offsets.{offsetsOf, paceOf};
+ghost use Rattle.rules.specs.Rules.{planRule, reportRules};
+ghost use Rattle.rules.specs.Leaves.{Fair, Paced, Sized};
+ghost use Rattle.planner.specs.Inside.{Settles};
 
 // Rule 9, decided before the first row is written, and the rows.
 fn plan_fair(

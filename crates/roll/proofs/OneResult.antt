@@ -9,10 +9,11 @@ use lib.ListN.{length, getD}
 use Rattle.trials.proofs.Passing.{Passed, last-part}
 use Rattle.trials.proofs.Single.{Soles, singly, not-refused, one-refuses}
 use Rattle.trials.proofs.Deciding.{Decidable, Decides, Gives, deciding, passed-or-given}
-use Rattle.planner.specs.Offsets.{Input, reportsOf, fastestOf}
-use Rattle.planner.specs.Rules.{planRules}
-use Rattle.planner.specs.declared.Roll.{Roll}
-use Rattle.planner.proofs.OneResult.{one-plan-rule, works, one-outcome}
+use Rattle.rules.specs.Offsets.{Input, reportsOf, fastestOf}
+use Rattle.rules.specs.Rules.{planRules}
+use Rattle.rules.specs.declared.Roll.{Roll}
+use Rattle.planner.proofs.OneResult.{one-outcome}
+use Rattle.rules.proofs.Table.{one-plan-rule, works}
 use Rattle.roll.specs.Format.{Marked, fileRules, inputOf, rollRules, RollOutcome}
 use Rattle.roll.specs.Answers.{FoundIs, TrailerIs, NumbersIs, PartIs}
 use Rattle.roll.specs.declared.Trailer.{Trailer}

@@ -15,11 +15,11 @@ use Rattle.trials.specs.Rules.{Refuses}
 use Rattle.trials.specs.Tries.{After}
 use Rattle.trials.specs.declared.Verdict.{Verdict}
 use Rattle.trials.proofs.Passing.{Passed, Quiet, finding}
-use Rattle.planner.specs.Offsets.{Input, reportsOf, fastestOf}
-use Rattle.planner.specs.Rules.{manyRule, countRules, wholeRules, reportRules, planRules}
+use Rattle.rules.specs.Offsets.{Input, reportsOf, fastestOf}
+use Rattle.rules.specs.Rules.{manyRule, countRules, wholeRules, reportRules, planRules}
 use Rattle.planner.specs.Outcome.{PlanOutcome}
-use Rattle.planner.specs.declared.Roll.{Roll}
-use Rattle.planner.proofs.Leaving.{few-reports}
+use Rattle.rules.specs.declared.Roll.{Roll}
+use Rattle.rules.proofs.Leaving.{few-reports}
 use Rattle.planner.proofs.Outcomes.{hands-up, goes-on}
 use Rattle.roll.specs.Format.{u32At, backOf, countOf, termsOf, fileRules, recordsOf, columnIn, inputIn, inputOf, RollOutcome}
 use Rattle.roll.specs.Answers.{FoundIs, PartIs, HandedUp}

@@ -6,9 +6,9 @@ use mathlib.Core.Path.{_≡_}
 use mathlib.Core.List.{List, [], _∷_, _++_}
 use lib.ListN.{length, getD, take, drop}
 use Rattle.trials.specs.Rules.{Rule, rule, Whole}
-use Rattle.planner.specs.Offsets.{Input, reportsOf, fastestOf}
-use Rattle.planner.specs.Rules.{planRules}
-use Rattle.planner.specs.declared.Roll.{Roll}
+use Rattle.rules.specs.Offsets.{Input, reportsOf, fastestOf}
+use Rattle.rules.specs.Rules.{planRules}
+use Rattle.rules.specs.declared.Roll.{Roll}
 use Rattle.planner.specs.Outcome.{Outcome}
 
 -- All numbers are little-endian: two bytes, and four.

@@ -2,9 +2,9 @@
 // comes back specs/Answers.antt.
 use answers::Answer;
 use answers::Refusal;
-use planner::Roll;
-use planner::counts;
 use planner::plan;
+use rules::Roll;
+use rules::count_rules;
 use trials::Verdict;
 use trials::or_if;
 
@@ -217,7 +217,7 @@ fn plan_found(roll: &[u8], t: Trailer, rows: &mut [u32]) -> Answer
     ensures { λ r. ⌜ RollOutcome (now (roll .entry)) (now (rows .entry)) (numberOf r) (placeOf r) (blocksOf r) (now (rows .exit)) ⌝ }
 {
     let count = t.count as usize;
-    let tried = counts::count_rules(Verdict::Silent, count, count, count, t.terms, rows.len());
+    let tried = count_rules(Verdict::Silent, count, count, count, t.terms, rows.len());
     if let Verdict::Given(refusal) = tried {
         return Answer::Refused(refusal);
     }

@@ -3,11 +3,12 @@
 use Prim.Native.Nat.{ℕ}
 use mathlib.Core.Path.{_≡_, sym, subst}
 use mathlib.Core.List.{List, _∷_}
-use Rattle.planner.specs.Offsets.{reportsOf, fastestOf}
+use Rattle.rules.specs.Offsets.{reportsOf, fastestOf}
 use Rattle.trials.proofs.Passing.{last-part}
 use Rattle.trials.proofs.Single.{one-whole}
-use Rattle.planner.specs.Rules.{planRules}
-use Rattle.planner.proofs.OneResult.{works, one-outcome}
+use Rattle.rules.specs.Rules.{planRules}
+use Rattle.planner.proofs.OneResult.{one-outcome}
+use Rattle.rules.proofs.Table.{works}
 use Rattle.roll.specs.Format.{inputOf, fileRules}
 use Rattle.roll.proofs.OneResult.{single-roll}
 use Rattle.text.specs.Text.{TextIs}

@@ -16,8 +16,8 @@ use Rattle.fraction.specs.Fraction.{whole, over, plus, times, later}
 use Rattle.critical.specs.Reports.{start}
 use Rattle.critical.specs.Rows.{holder, behind, sum, Critical}
 use Rattle.critical.proofs.Tests.{test-critical}
-use Rattle.planner.specs.Offsets.{Input, reportsOf, fastestOf}
-use Rattle.planner.specs.Rules.{wholeRules, formRules}
+use Rattle.rules.specs.Offsets.{Input, reportsOf, fastestOf}
+use Rattle.rules.specs.Rules.{wholeRules, formRules}
 use Rattle.planner.specs.Outcome.{rowAt, Written}
 use Rattle.planner.proofs.Outcomes.{accepts}
 use Rattle.roll.specs.Format.{listed, fileRules, inputOf}

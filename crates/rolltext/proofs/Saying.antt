@@ -8,7 +8,7 @@ use native.Mathlib.Omega.{arith}
 use lib.ListN.{length}
 use Rattle.trials.specs.Rules.{Refused}
 use Rattle.trials.proofs.Passing.{Quiet, more, none}
-use Rattle.planner.specs.Offsets.{reportsOf, fastestOf}
+use Rattle.rules.specs.Offsets.{reportsOf, fastestOf}
 use Rattle.planner.proofs.Outcomes.{hands-up, goes-on}
 use Rattle.roll.specs.Format.{inputOf, rollRules, RollOutcome}
 use Rattle.rolltext.specs.Program.{longRule, ProgramOutcome}

@@ -10,11 +10,11 @@ use Rattle.answers.specs.Numbers.{width}
 use Rattle.trials.proofs.Passing.{Passed, Quiet, finding}
 use Rattle.trials.proofs.Numbers.{Never, never-none, never-other, never-this}
 use Rattle.critical.proofs.Theorems.{few-blocks}
-use Rattle.planner.specs.Offsets.{Input, offset, reportsOf, fastestOf}
-use Rattle.planner.specs.Rules.{lengthsRule, manyRule, shortRule}
+use Rattle.rules.specs.Offsets.{Input, offset, reportsOf, fastestOf}
+use Rattle.rules.specs.Rules.{lengthsRule, manyRule, shortRule}
 use Rattle.planner.specs.Outcome.{Outcome}
 use Rattle.planner.proofs.Laws.{length-map}
-use Rattle.planner.proofs.Leaving.{few-reports}
+use Rattle.rules.proofs.Leaving.{few-reports}
 use Rattle.roll.specs.Format.{inputOf, recordsOf, countOf}
 use Rattle.roll.proofs.Rolls.{column-long}
 use Rattle.text.specs.Text.{Puts, Room, planText, textRoom}

@@ -4,7 +4,7 @@ use Prim.Native.Nat.{ℕ, _<_}
 use mathlib.Core.List.{List, _∷_}
 use lib.ListN.{length}
 use Rattle.trials.specs.Rules.{Rule, rule, Whole}
-use Rattle.planner.specs.Offsets.{Input, reportsOf, fastestOf}
+use Rattle.rules.specs.Offsets.{Input, reportsOf, fastestOf}
 use Rattle.planner.specs.Outcome.{Outcome}
 use Rattle.roll.specs.Format.{inputOf, rollRules}
 use Rattle.text.specs.Text.{TextIs}

@@ -3,7 +3,7 @@
 use answers::Answer;
 use answers::Refusal;
 use answers::Row;
-use planner::Roll;
+use rules::Roll;
 use text::Text;
 ghost use Prim.Native.Nat.{_≤_};
 ghost use lib.ListN.{length};

@@ -1,7 +1,7 @@
 // Runs every row of 01's table through plan, and each refusal, and writes two lines for each: number,
 // place and block count; then the buffer, whose 30 numbers are all 7 beforehand.
 use libc::STDOUT_FILENO;
-use planner::Roll;
+use rules::Roll;
 
 // Writes a number and a space.
 fn show(n: u64) {

@@ -3,7 +3,7 @@
 // a group of rules promises After (specs/Tries.antt), and proofs/Trying.antt puts groups one behind
 // the other. Here too are the searches for a fault that rules are decided by.
 use answers::Refusal;
-ghost use mathlib.Core.Bool.{true, false};
+ghost use mathlib.Core.Bool.{true};
 ghost use Prim.Native.Nat.{_<_};
 ghost use lib.ListN.{length, getD};
 ghost use Rattle.trials.specs.Rules.{Outside, Falls};

@@ -2,7 +2,7 @@
 // slices. include/vakrhildo.h declares them for C, outside/vakrhildo wraps them for Rust. The promises
 // are those of planner::plan and roll::plan_roll, in 01's numbers.
 use answers::Reply;
-use planner::Roll;
+use rules::Roll;
 ghost use Rattle.planner.specs.Outcome.{PlanOutcome};
 ghost use Rattle.roll.specs.Format.{RollOutcome};
 

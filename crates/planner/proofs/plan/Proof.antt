@@ -3,10 +3,10 @@
 use borrow.Author.Needs.{needs}
 use Rattle.trials.proofs.Passing.{Passed}
 use Rattle.trials.proofs.Trying.{passed, refuses}
-use Rattle.planner.specs.Offsets.{Input, reportsOf, fastestOf}
-use Rattle.planner.specs.Rules.{wholeRules, reportRules}
+use Rattle.rules.specs.Offsets.{Input, reportsOf, fastestOf}
+use Rattle.rules.specs.Rules.{wholeRules, reportRules}
 use Rattle.planner.proofs.Outcomes.{hands-up, goes-on}
-use Rattle.planner.proofs.Leaving.{sized-lists, good-terms}
+use Rattle.rules.proofs.Leaving.{sized-lists, good-terms}
 use Rattle.planner.proofs.plan.Statement.{statement}
 use Rattle.planner.proofs.plan.Tie as tie
 

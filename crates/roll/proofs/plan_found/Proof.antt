@@ -3,7 +3,7 @@
 use borrow.Author.Needs.{needs}
 use Rattle.trials.proofs.Passing.{Passed}
 use Rattle.trials.proofs.Trying.{passed, refuses}
-use Rattle.planner.specs.Rules.{wholeRules}
+use Rattle.rules.specs.Rules.{wholeRules}
 use Rattle.roll.specs.Format.{inputOf}
 use Rattle.roll.proofs.FileRules.{FileHas, found-is}
 use Rattle.roll.proofs.Rolls.{counted, refused-list, few-records, part-long, planned-roll}

@@ -7,7 +7,7 @@ use Prim.Native.Nat.{_≤_, _-_}
 use mathlib.Core.Path.{_≡_}
 use mathlib.Core.List.{map}
 use lib.ListN.{length, take}
-use Rattle.planner.specs.Offsets.{offset}
+use Rattle.rules.specs.Offsets.{offset}
 use Rattle.planner.proofs.readings.offsets.Statement.{statement}
 use Rattle.planner.proofs.readings.offsets.Tie as tie
 

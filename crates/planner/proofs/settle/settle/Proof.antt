@@ -6,10 +6,10 @@ use Rattle.trials.specs.Rules.{Rule}
 use Rattle.trials.proofs.Trying.{passed, refuses}
 use Rattle.fraction.specs.Fraction.{Fraction}
 use Rattle.critical.specs.Reports.{Reports, listOf}
-use Rattle.planner.specs.Offsets.{paceOf}
-use Rattle.planner.specs.Rules.{formRules, planRule}
+use Rattle.rules.specs.Offsets.{paceOf}
+use Rattle.rules.specs.Rules.{formRules, planRule}
 use Rattle.planner.proofs.Outcomes.{hands-up, goes-on}
-use Rattle.planner.proofs.Leaving.{fair-lists}
+use Rattle.rules.proofs.Leaving.{fair-lists}
 use Rattle.planner.proofs.settle.settle.Statement.{statement}
 use Rattle.planner.proofs.settle.settle.Tie as tie
 

@@ -5,7 +5,7 @@ use Prim.Native.Nat.{ℕ}
 use mathlib.Core.Path.{_≡_, refl}
 use mathlib.Core.List.{List, map}
 use lib.ListN.{length, take}
-use Rattle.planner.specs.Offsets.{offset, paceOf}
+use Rattle.rules.specs.Offsets.{offset, paceOf}
 use Rattle.planner.proofs.Outcomes.{front, front-long, sized-offsets, outcome-offsets}
 use Rattle.planner.proofs.settle.settle_readings.Statement.{statement}
 use Rattle.planner.proofs.settle.settle_readings.Tie as tie

@@ -4,7 +4,7 @@ use Prim.Native.Nat.{ℕ, _+_, _-_, _%_, _^_}
 use mathlib.Core.List.{List, map}
 use Rattle.fraction.specs.Fraction.{Fraction, over}
 use Rattle.critical.specs.Reports.{Reports, listOf}
-use Rattle.planner.specs.declared.Roll.{Roll}
+use Rattle.rules.specs.declared.Roll.{Roll}
 
 -- A reading's offset is reading minus reference, taken modulo 2^32.
 abbrev pub offset : ℕ → ℕ → ℕ

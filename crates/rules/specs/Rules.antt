@@ -9,8 +9,8 @@ use Rattle.answers.specs.Numbers.{width}
 use Rattle.trials.specs.Rules.{Rule, rule, Whole, Least, Outside, Falls}
 use Rattle.fraction.specs.Fraction.{Fraction}
 use Rattle.critical.specs.Reports.{Reports, FirstWithout}
-use Rattle.planner.specs.Offsets.{Input, reportsOf, fastestOf}
-use Rattle.planner.specs.declared.Roll.{Roll}
+use Rattle.rules.specs.Offsets.{Input, reportsOf, fastestOf}
+use Rattle.rules.specs.declared.Roll.{Roll}
 
 -- ---- rules of the whole list: of how long the lists and the row buffer are, and of the terms
 -- 1: the three lists differ in length.

@@ -1,9 +1,9 @@
--- `planner::counts::bad_pace` meets its contract.
+-- `rules::bad_pace` meets its contract.
 -- Assumes nothing.
 use borrow.Author.Needs.{needs}
 use Rattle.trials.proofs.Trying.{tells-first, tells-second}
-use Rattle.planner.proofs.counts.bad_pace.Statement.{statement}
-use Rattle.planner.proofs.counts.bad_pace.Tie as tie
+use Rattle.rules.proofs.bad_pace.Statement.{statement}
+use Rattle.rules.proofs.bad_pace.Tie as tie
 
 pub bad-pace-spec : {M : Type 1} → statement M
 bad-pace-spec =

@@ -15,9 +15,9 @@ use Rattle.trials.proofs.Trying.{tells-as, tells-below}
 use Rattle.trials.proofs.Passing.{Passed, Quiet, finding, unfaulted, untrue}
 use Rattle.fraction.proofs.Scale.{cases}
 use Rattle.critical.specs.Reports.{Reports, listOf, Working}
-use Rattle.planner.specs.Rules.{lengthsRule, manyRule, shortRule, paceRule, countRules, operationsRule, arrivalRule, deadlineRule, formRules}
-use Rattle.planner.specs.Inside.{Sized, Paced, Fair}
-use Rattle.planner.specs.declared.Roll.{Roll}
+use Rattle.rules.specs.Rules.{lengthsRule, manyRule, shortRule, paceRule, countRules, operationsRule, arrivalRule, deadlineRule, formRules}
+use Rattle.rules.specs.Leaves.{Sized, Paced, Fair}
+use Rattle.rules.specs.declared.Roll.{Roll}
 
 pub within-range : (low high x : ℕ) → (Outside low high x → ⊥) → (low ≤ x) × (x ≤ high)
 within-range low high x h = (cases x low (λ l. absurd (h (inl l))) (λ g. g), cases high x (λ l. absurd (h (inr l))) (λ g. g))

@@ -1,6 +1,5 @@
-// Rules 1 to 4, tried in their order (specs/Rules.antt): the group is handed the verdict of the rules
-// before it and gives that of all of them. Two lines a rule: whether it is given, and or_if.
-use crate::Roll;
+// 01's table of refusals, rules 1 to 9, and what they leave (specs/): the types that they are about, with
+// their limits, and rules 1 to 4 tried in their order.
 use answers::Refusal;
 use answers::Row;
 use trials::Verdict;
@@ -11,7 +10,52 @@ ghost use Prim.Native.Nat.{_*_, _<_};
 ghost use Rattle.answers.specs.Numbers.{width};
 ghost use Rattle.trials.specs.Rules.{Outside};
 ghost use Rattle.trials.specs.Tries.{Tells, After};
-ghost use Rattle.planner.specs.Rules.{countRules};
+ghost use Rattle.rules.specs.Rules.{countRules};
+
+// A report, by its offsets.
+pub struct Report {
+    pub arrival: u32,
+    pub deadline: u32,
+    pub operations: u32,
+}
+
+impl Report {
+    // The most operations a report may have.
+    pub const OPERATIONS: u32 = 65535;
+    // The largest usable offset.
+    pub const OFFSET: u32 = 2147483647;
+
+    pub fn new(arrival: u32, deadline: u32, operations: u32) -> Report
+        ensures { λ r. ⌜ r ≡ record { arrival = arrival; deadline = deadline; operations = operations } ⌝ }
+    {
+        Report {
+            arrival,
+            deadline,
+            operations,
+        }
+    }
+}
+
+// The terms that a list comes with, what a roll says beside its reports: the reference reading, and
+// the fastest pace P/Q.
+pub struct Roll {
+    pub reference: u32,
+    pub p: u32,
+    pub q: u32,
+}
+
+impl Roll {
+    // The most reports a roll may have.
+    pub const REPORTS: usize = 1024;
+    // The largest P and Q.
+    pub const PACE: u32 = 65535;
+
+    pub fn new(reference: u32, p: u32, q: u32) -> Roll
+        ensures { λ r. ⌜ r ≡ record { reference = reference; p = p; q = q } ⌝ }
+    {
+        Roll { reference, p, q }
+    }
+}
 
 // Whether three lists differ in length.
 fn uneven(arrivals: usize, deadlines: usize, operations: usize) -> bool
@@ -40,7 +84,9 @@ fn bad_pace(terms: Roll) -> bool
     trials::outside(terms.q, 1, Roll::PACE)
 }
 
-// Rules 1 to 4, of how long the lists and the row buffer are, and of the terms.
+// Rules 1 to 4, of how long the lists and the row buffer are, and of the terms: it is handed the
+// verdict of the rules before them, and gives that of all of them. Two lines a rule: whether it is
+// given, and or_if.
 pub fn count_rules(
     so_far: Verdict,
     arrivals: usize,

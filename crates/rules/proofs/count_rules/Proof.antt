@@ -1,9 +1,9 @@
--- `planner::counts::count_rules` meets its contract: one search for all its rules, in whatever order they stand.
+-- `rules::count_rules` meets its contract: one search for all its rules, in whatever order they stand.
 -- Assumes nothing.
 use borrow.Author.Needs.{needs}
 use Rattle.trials.proofs.Trying.{trying}
-use Rattle.planner.proofs.counts.count_rules.Statement.{statement}
-use Rattle.planner.proofs.counts.count_rules.Tie as tie
+use Rattle.rules.proofs.count_rules.Statement.{statement}
+use Rattle.rules.proofs.count_rules.Tie as tie
 
 pub count-rules-spec : {M : Type 1} → statement M
 count-rules-spec =
