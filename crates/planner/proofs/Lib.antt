@@ -1,4 +1,3 @@
-pub mod Laws
 pub mod Through
 pub mod Searching
 pub mod Writing

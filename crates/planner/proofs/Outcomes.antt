@@ -20,7 +20,7 @@ use Rattle.planner.specs.Outcome.{rowAt, Outcome, Written}
 use Rattle.rules.specs.Leaves.{Sized, Paced}
 use Rattle.planner.specs.Inside.{PassEnds, BlocksIn}
 use Rattle.rules.specs.declared.Roll.{Roll}
-use Rattle.planner.proofs.Laws.{length-map}
+use Rattle.lists.proofs.Filling.{length-map}
 
 module _ (ℓ : Reports) (f : Fraction) (before : List ℕ) where
   refused : (rules : List Rule) (number place : ℕ) → 0 < number → Refused rules number place → Outcome rules ℓ f before number place 0 before

@@ -24,7 +24,7 @@ use Rattle.rules.specs.Rules.{shortRule, paceRule, operationsRule, planRule, wh
 use Rattle.rules.proofs.Table.{decided}
 use Rattle.planner.specs.Outcome.{rowAt, Written, PlanOutcome}
 use Rattle.planner.specs.Inside.{putRow}
-use Rattle.planner.proofs.Laws.{length-map}
+use Rattle.lists.proofs.Filling.{length-map}
 use Rattle.planner.proofs.Writing.{length-put, put-behind, row-other, row-put}
 use Rattle.rules.proofs.Leaving.{enough-room, good-pace, working}
 use Rattle.planner.proofs.Outcomes.{hands-up, goes-on, plans, positive}

@@ -12,7 +12,7 @@ use Rattle.critical.specs.Rows.{Row}
 use Rattle.critical.proofs.Unique.{row-≡}
 use Rattle.planner.specs.Outcome.{rowAt}
 use Rattle.planner.specs.Inside.{putRow}
-use Rattle.planner.proofs.Laws.{paste-before, paste-within, paste-behind}
+use Rattle.lists.proofs.Copying.{paste-before, paste-within, paste-behind}
 
 -- the row that a row's numbers are of
 abbrev pub blockOf : Numbers → Row

@@ -1,4 +1,5 @@
-// Rules 5 to 8, tried in their order (specs/Rules.antt), as rules 1 to 4 are in counts.rt.
+// Rules 5 to 8, tried in their order, as rules 1 to 4 are by rules::count_rules: two lines a rule,
+// whether it is given, and or_if.
 use answers::Refusal;
 use rules::Report;
 use trials::Verdict;

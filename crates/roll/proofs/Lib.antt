@@ -1,4 +1,3 @@
-pub mod Columns
 pub mod FileRules
 pub mod Rolls
 pub mod OneResult

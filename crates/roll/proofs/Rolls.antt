@@ -28,7 +28,7 @@ use Rattle.roll.specs.declared.Found.{Found}
 use Rattle.roll.specs.declared.Found.the-variants.{Is, Not}
 use Rattle.roll.proofs.Found.{the-type}
 use Rattle.roll.proofs.FileRules.{FileIs, file-is, FileHas}
-use Rattle.roll.proofs.Columns.{length-listed}
+use Rattle.lists.proofs.Filling.{length-listed}
 
 -- a column has a number for each record
 pub column-long : (part : List ℕ) (count at : ℕ) → length (columnIn part count at) ≡ count

@@ -1,10 +1,11 @@
 -- The roll (01, "The roll"): records of 12 bytes, then a trailer of 16 that points back. A free preface stands before the records and is never looked at.
 -- A roll is a list of bytes s; its trailer is read from the end.
 -- Assumes nothing.
-use Prim.Native.Nat.{ℕ, zero, suc, _+_, _*_, _-_, _<_}
+use Prim.Native.Nat.{ℕ, _+_, _*_, _-_, _<_}
 use mathlib.Core.Path.{_≡_}
 use mathlib.Core.List.{List, [], _∷_, _++_}
 use lib.ListN.{length, getD, take, drop}
+use Rattle.lists.specs.Listed.{listed}
 use Rattle.trials.specs.Rules.{Rule, rule, Whole}
 use Rattle.rules.specs.Offsets.{Input, reportsOf, fastestOf}
 use Rattle.rules.specs.Rules.{planRules}
@@ -65,11 +66,6 @@ fileRules s = shortRule s ∷ trailerRules s
 -- The part of the bytes that holds the records: from the back distance before the end up to the trailer.
 abbrev pub recordsOf : List ℕ → List ℕ
 recordsOf s = take (12 * countOf s) (drop (length s - backOf s) s)
-
--- The first n numbers that a function gives.
-unfoldable pub listed : ℕ → (ℕ → ℕ) → List ℕ
-listed zero f = []
-listed (suc n) f = listed n f ++ (f n ∷ [])
 
 -- One number of each record of a part: at 0 the arrival reading, at 4 the deadline reading, at 8 the operations.
 abbrev pub columnIn : List ℕ → ℕ → ℕ → List ℕ

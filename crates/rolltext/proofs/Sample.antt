@@ -20,7 +20,8 @@ use Rattle.rules.specs.Offsets.{Input, reportsOf, fastestOf}
 use Rattle.rules.specs.Rules.{wholeRules, formRules}
 use Rattle.planner.specs.Outcome.{rowAt, Written}
 use Rattle.planner.proofs.Outcomes.{accepts}
-use Rattle.roll.specs.Format.{listed, fileRules, inputOf}
+use Rattle.roll.specs.Format.{fileRules, inputOf}
+use Rattle.lists.specs.Listed.{listed}
 use Rattle.roll.proofs.OneResult.{dec-marked}
 use Rattle.text.specs.Text.{placesUpTo, line, rowLines, planText}
 use Rattle.rolltext.specs.Program.{longRule, ProgramOutcome}

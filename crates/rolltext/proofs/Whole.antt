@@ -13,7 +13,7 @@ use Rattle.critical.proofs.Theorems.{few-blocks}
 use Rattle.rules.specs.Offsets.{Input, offset, reportsOf, fastestOf}
 use Rattle.rules.specs.Rules.{lengthsRule, manyRule, shortRule}
 use Rattle.planner.specs.Outcome.{Outcome}
-use Rattle.planner.proofs.Laws.{length-map}
+use Rattle.lists.proofs.Filling.{length-map}
 use Rattle.rules.proofs.Leaving.{few-reports}
 use Rattle.roll.specs.Format.{inputOf, recordsOf, countOf}
 use Rattle.roll.proofs.Rolls.{column-long}

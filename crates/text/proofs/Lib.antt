@@ -2,4 +2,3 @@ pub mod Decimal
 pub mod Putting
 pub mod Spaced
 pub mod PlanText
-pub mod Copying

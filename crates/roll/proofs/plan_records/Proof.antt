@@ -2,7 +2,7 @@
 -- Assumes nothing.
 use borrow.Author.Needs.{needs}
 use Rattle.roll.specs.Format.{columnIn}
-use Rattle.roll.proofs.Columns.{front-long}
+use Rattle.lists.proofs.Filling.{front-long}
 use Rattle.roll.proofs.Rolls.{same-lists}
 use Rattle.roll.proofs.plan_records.Statement.{statement}
 use Rattle.roll.proofs.plan_records.Tie as tie

@@ -7,7 +7,7 @@ use native.Mathlib.Omega.{arith}
 use lib.ListN.{length}
 use Rattle.answers.specs.Numbers.{width}
 use Rattle.planner.specs.Inside.{putRow}
-use Rattle.planner.proofs.Laws.{Copied, copied-none, copied-long, copied-more, copied-all}
+use Rattle.lists.proofs.Copying.{Copied, copied-none, copied-long, copied-more, copied-all}
 use Rattle.planner.proofs.blocks.put_row.Statement.{statement}
 use Rattle.planner.proofs.blocks.put_row.Tie as tie
 

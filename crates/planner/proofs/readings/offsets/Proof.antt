@@ -1,60 +1,29 @@
--- `planner::readings::offsets` meets its contract. The invariant: the front of out is the offsets of the readings passed. The measure is what is left of them.
+-- `planner::readings::offsets` meets its contract: a loop that fills the front of out.
 -- Assumes nothing.
 use borrow.Author.Needs.{needs}
-use native.Mathlib.Omega.{arith}
-use Rattle.planner.proofs.Laws.{map-more, map-done}
-use Prim.Native.Nat.{_≤_, _-_}
-use mathlib.Core.Path.{_≡_}
-use mathlib.Core.List.{map}
-use lib.ListN.{length, take}
+use Prim.Native.Nat.{_-_}
+use mathlib.Core.Path.{sym, _∙_}
+use lib.ListN.{length, getD}
+use Rattle.lists.proofs.Filling.{Filled, filled-none, filled-more, filled-all, map-listed}
 use Rattle.rules.specs.Offsets.{offset}
 use Rattle.planner.proofs.readings.offsets.Statement.{statement}
 use Rattle.planner.proofs.readings.offsets.Tie as tie
 
 abbrev Inv-loop : tie.InvT-loop
-Inv-loop readings reference out₀ i₀ out i = (i ≤ length readings) × (length out ≡ length out₀) × (take i out ≡ map (offset reference) (take i readings))
+Inv-loop readings reference out₀ i₀ out i = Filled (λ k. offset reference (getD readings k 0)) (length readings) out₀ i out
 
 abbrev μ-loop : tie.MeasureT-loop
 μ-loop readings reference out₀ i₀ out i = length readings - i
 
-loop-holds : tie.Need-loop-holds Inv-loop μ-loop
-loop-holds c = search needs
-
-mul-offset : tie.Need-mul-offset Inv-loop μ-loop
-mul-offset c = search needs
-
-shared-slice-read-offset : tie.Need-shared-slice-read-offset Inv-loop μ-loop
-shared-slice-read-offset c = search needs
-
-offset-requires : tie.Need-offset-requires Inv-loop μ-loop
-offset-requires c κs = search needs
-
-mul-out : tie.Need-mul-out Inv-loop μ-loop
-mul-out c = search needs
-
-slice-write-out : tie.Need-slice-write-out Inv-loop μ-loop
-slice-write-out c = search needs
-
-add-i : tie.Need-add-i Inv-loop μ-loop
-add-i c = search needs
-
-loop-less : tie.Need-loop-less Inv-loop μ-loop
-loop-less c = search needs
-
 loop-again : tie.Need-loop-again Inv-loop μ-loop
 loop-again c =
     let l = c .before .before .before in
-    let a = l .before .before .before .args in
-    (search needs, search needs, map-more (offset (a .reference)) (a .readings .now) (l .loop .out) (l .loop .i) (c .offset .result) (search needs) (search needs) (c .offset .ensures) (l .loop .inv .2))
-
-same-length : tie.Need-same-length Inv-loop μ-loop
-same-length c = search needs
+    filled-more (l .loop .inv) (c .before .before .loop-test .taken) (l .before .before .before .pre) (c .offset .ensures)
 
 returns : tie.Need-returns Inv-loop μ-loop
 returns c =
-    let l = c .before in
-    let a = l .before .before .before .args in
-    map-done (offset (a .reference)) (a .readings .now) (l .loop .out) (l .loop .i) (omega (arith, c .loop-test .left)) (l .loop .inv .2)
+    let a = c .before .before .before .before .args in
+    filled-all (c .before .loop .inv) (c .loop-test .left) ∙ sym (map-listed (offset (a .reference)) (a .readings .now))
 
 pub offsets-spec : {M : Type 1} → statement M
 offsets-spec =
@@ -62,14 +31,14 @@ offsets-spec =
     (tie.spec
     Inv-loop
     μ-loop
-    loop-holds
-    mul-offset
-    shared-slice-read-offset
-    offset-requires
-    mul-out
-    slice-write-out
-    add-i
-    loop-less
+    (λ c. filled-none)
+    (λ c. search needs)
+    (λ c. search needs)
+    (λ c κs. search needs)
+    (λ c. search needs)
+    (λ c. search needs)
+    (λ c. search needs)
+    (λ c. search needs)
     loop-again
-    same-length
+    (λ c. search needs)
     returns)

@@ -1,54 +1,24 @@
--- `text::lines::widen` meets its contract. The invariant: the numbers passed are copied. The measure is what is left of the buffer.
+-- `text::lines::widen` meets its contract: a loop that fills out.
 -- Assumes nothing.
-use Prim.Native.Nat.{_-_}
-use mathlib.Core.Path.{refl}
-use lib.ListN.{length}
-use Rattle.text.proofs.Copying.{Copied, copies-on, copies-all}
 use borrow.Author.Needs.{needs}
+use Prim.Native.Nat.{_+_, _-_}
+use mathlib.Core.Path.{refl, sym, _∙_}
+use native.Mathlib.Nat.{le-refl}
+use lib.ListN.{length, getD}
+use Rattle.lists.proofs.Filling.{Filled, filled-none, filled-more, filled-whole, part-listed}
 use Rattle.text.proofs.lines.widen.Statement.{statement}
 use Rattle.text.proofs.lines.widen.Tie as tie
 
 abbrev Inv-loop : tie.InvT-loop
-Inv-loop rows from out₀ i₀ out i = Copied rows from out₀ i out
+Inv-loop rows from out₀ i₀ out i = Filled (λ k. getD rows (from + k) 0) (length out₀) out₀ i out
 
 abbrev μ-loop : tie.MeasureT-loop
 μ-loop rows from out₀ i₀ out i = length out₀ - i
 
-loop-holds : tie.Need-loop-holds Inv-loop μ-loop
-loop-holds c = record { upto = search needs; long = refl; part = refl }
-
-add-wide : tie.Need-add-wide Inv-loop μ-loop
-add-wide c = search needs
-
-mul-wide : tie.Need-mul-wide Inv-loop μ-loop
-mul-wide c = search needs
-
-shared-slice-read-wide : tie.Need-shared-slice-read-wide Inv-loop μ-loop
-shared-slice-read-wide c = search needs
-
-wide-requires : tie.Need-wide-requires Inv-loop μ-loop
-wide-requires c κs = search needs
-
-mul-out : tie.Need-mul-out Inv-loop μ-loop
-mul-out c = search needs
-
-slice-write-out : tie.Need-slice-write-out Inv-loop μ-loop
-slice-write-out c = search needs
-
-add-i : tie.Need-add-i Inv-loop μ-loop
-add-i c = search needs
-
-loop-less : tie.Need-loop-less Inv-loop μ-loop
-loop-less c = search needs
-
-loop-again : tie.Need-loop-again Inv-loop μ-loop
-loop-again c = copies-on (search needs) (search needs) (c .wide .ensures) (c .before .before .before .loop .inv)
-
-same-length : tie.Need-same-length Inv-loop μ-loop
-same-length c = search needs
-
 returns : tie.Need-returns Inv-loop μ-loop
-returns c = copies-all (search needs) (c .before .loop .inv)
+returns c =
+    let s = c .before .before .before .before in
+    filled-whole (c .before .loop .inv) (search needs) refl ∙ sym (part-listed (s .args .rows .now) (s .args .from) (length (s .args .out .now)) (s .pre))
 
 pub widen-spec : {M : Type 1} → statement M
 widen-spec =
@@ -56,15 +26,15 @@ widen-spec =
     (tie.spec
     Inv-loop
     μ-loop
-    loop-holds
-    add-wide
-    mul-wide
-    shared-slice-read-wide
-    wide-requires
-    mul-out
-    slice-write-out
-    add-i
-    loop-less
-    loop-again
-    same-length
+    (λ c. filled-none)
+    (λ c. search needs)
+    (λ c. search needs)
+    (λ c. search needs)
+    (λ c κs. search needs)
+    (λ c. search needs)
+    (λ c. search needs)
+    (λ c. search needs)
+    (λ c. search needs)
+    (λ c. filled-more (c .before .before .before .loop .inv) (search needs) (le-refl _) (c .wide .ensures))
+    (λ c. search needs)
     returns)

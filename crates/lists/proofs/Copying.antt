@@ -1,24 +1,12 @@
--- Laws on lists and numbers that the proofs of this crate's functions cite.
+-- Numbers copied into a buffer from a place on: what stands where, and the loop that copies.
 -- Assumes nothing.
-use Prim.Native.Nat.{ℕ, suc, _+_, _-_, _≤_, _<_}
-use mathlib.Core.Path.{_≡_, refl, sym, _∙_, ap, subst}
-use mathlib.Core.List.{List, [], _∷_, _++_, map, map-append}
+use Prim.Native.Nat.{ℕ, _+_, _-_, _≤_, _<_}
+use mathlib.Core.Path.{_≡_, sym, _∙_, ap, subst}
+use mathlib.Core.List.{List, _++_}
 use native.Mathlib.Omega.{arith}
 use native.Mathlib.Numerals.{add-one}
 use lib.ListN.{length, getD, take, set, List·getD-append}
-use lib.Seq.{take-length, take-suc, take-suc-set, paste, paste-zero, paste-suc, take-paste, drop-paste, length-paste, length-take-le, getD-take, getD-drop, getD-append-add}
-
--- ---- one more element of a list that is made by a function from another
-pub map-more : (f : ℕ → ℕ) (from to : List ℕ) (i v : ℕ) → i < length from → i < length to → v ≡ f (getD from i 0) → take i to ≡ map f (take i from) → take (i + 1) (set to i v) ≡ map f (take (i + 1) from)
-map-more f from to i v h k e p =
-    rw (add-one i, take-suc-set to i v k, take-suc from i 0 h, map-append f (take i from) (getD from i 0 ∷ []), p, e) refl
-
-pub map-done : (f : ℕ → ℕ) (from to : List ℕ) (i : ℕ) → i ≡ length from → take i to ≡ map f (take i from) → take (length from) to ≡ map f from
-map-done f from to i e p = subst (λ (n : ℕ). take n to ≡ map f (take n from)) e p ∙ ap (map f) (take-length from)
-
-pub length-map : (f : ℕ → ℕ) (l : List ℕ) → length (map f l) ≡ length l
-length-map f [] = refl
-length-map f (x ∷ l) = ap suc (length-map f l)
+use lib.Seq.{paste, paste-zero, paste-suc, take-paste, drop-paste, length-paste, length-take-le, getD-take, getD-drop, getD-append-add}
 
 -- ---- the numbers of a list into which n numbers of another were copied, from a place on
 module _ (d : List ℕ) (at : ℕ) (s : List ℕ) (n : ℕ) (room : at + n ≤ length d) (long : n ≤ length s) where
