@@ -20,7 +20,7 @@ returns : tie.Need-returns
 returns c =
     let t = c .before .before .before in
     let x = input t in
-    hands-up (reportsOf x) (fastestOf x) (x .buffer) (wholeRules x) (reportRules (reportsOf x) (fastestOf x)) (refuses (t .count-rules .ensures) (c .before .tried .given .1))
+    hands-up (reportsOf x) (fastestOf x) (x .buffer) (wholeRules x) (reportRules (reportsOf x) (fastestOf x)) (refuses {rules = wholeRules x} (t .count-rules .ensures) (c .before .tried .given .1))
 
 -- where they are silent
 quiet : (c : tie.After-enum-told) → Passed (wholeRules (input (c .before .before)))
