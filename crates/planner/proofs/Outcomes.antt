@@ -86,8 +86,7 @@ sized-offsets g xs ys ws zs us before e e′ s =
     let a : length us ≡ length xs = ap length e ∙ length-map g xs in
     let b : length zs ≡ length ys = ap length e′ ∙ length-map g ys in
     record {
-      deadlines-long = b ∙ s .deadlines-long ∙ sym a;
-      operations-long = s .operations-long ∙ sym a;
+      even = record { deadlines-long = b ∙ s .even .deadlines-long ∙ sym a; operations-long = s .even .operations-long ∙ sym a };
       few = omega (arith, a, s .few);
       room = omega (arith, a, s .room);
     }

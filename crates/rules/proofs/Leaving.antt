@@ -50,8 +50,10 @@ module _ (xs ys ws before : List ℕ) (terms : Roll) (p : Passed (countRules (le
       let many : Quiet (manyRule (length xs)) = search finding depth 40 in
       let short : Quiet (shortRule (length xs) (length before)) = search finding depth 40 in
       record {
-        deadlines-long = elim (ℕ-discrete (length ys) (length xs)) [ yes e ↦ e | no h ↦ absurd (untrue lengths (inl (λ e. h (sym e)))) ];
-        operations-long = elim (ℕ-discrete (length ws) (length xs)) [ yes e ↦ e | no h ↦ absurd (untrue lengths (inr (λ e. h (sym e)))) ];
+        even = record {
+          deadlines-long = elim (ℕ-discrete (length ys) (length xs)) [ yes e ↦ e | no h ↦ absurd (untrue lengths (inl (λ e. h (sym e)))) ];
+          operations-long = elim (ℕ-discrete (length ws) (length xs)) [ yes e ↦ e | no h ↦ absurd (untrue lengths (inr (λ e. h (sym e)))) ];
+        };
         few = few-reports many;
         room = enough-room (length xs) (length before) short;
       }
@@ -70,8 +72,7 @@ module _ (xs ys ws before : List ℕ) (sized : Sized xs ys ws before) (p : Passe
       let arrive : Quiet (arrivalRule ℓ) = search finding depth 40 in
       let due : Quiet (deadlineRule ℓ) = search finding depth 40 in
       record {
-        deadlines-long = sized .deadlines-long;
-        operations-long = sized .operations-long;
+        even = sized .even;
         few = sized .few;
         some = λ i h. within-range 1 65535 (getD ws i 0) (unfaulted work i h) .0;
         work = λ i h. within-range 1 65535 (getD ws i 0) (unfaulted work i h) .1;

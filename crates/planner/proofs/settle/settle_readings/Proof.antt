@@ -34,7 +34,7 @@ from-is : (c : tie.After-offsets2) → take (n c) (from c) ≡ map (by c) (entry
 from-is c = front (by c) (entry c .args .arrivals .now) (from c) (n c) refl (first c .offsets .ensures)
 
 due-is : (c : tie.After-offsets2) → take (n c) (due c) ≡ map (by c) (entry c .args .deadlines .now)
-due-is c = front (by c) (entry c .args .deadlines .now) (due c) (n c) (entry c .pre .0 .deadlines-long) (c .offsets2 .ensures)
+due-is c = front (by c) (entry c .args .deadlines .now) (due c) (n c) (entry c .pre .0 .even .deadlines-long) (c .offsets2 .ensures)
 
 slice-aggregate-settle : tie.Need-slice-aggregate-settle
 slice-aggregate-settle c =
@@ -44,7 +44,7 @@ slice-aggregate-settle c =
 slice-aggregate-settle-2 : tie.Need-slice-aggregate-settle-2
 slice-aggregate-settle-2 c =
     let o = c .before .before .before in
-    front-long (by o) (entry o .args .deadlines .now) (due o) (n o) (entry o .pre .0 .deadlines-long) (o .offsets2 .ensures)
+    front-long (by o) (entry o .args .deadlines .now) (due o) (n o) (entry o .pre .0 .even .deadlines-long) (o .offsets2 .ensures)
 
 settle-requires : tie.Need-settle-requires
 settle-requires c κs =
