@@ -1,6 +1,6 @@
 -- What each answer is in 01's numbers (01, "The refusals and their order"), and how many numbers a row has.
 -- Assumes nothing.
-use Prim.Native.Nat.{ℕ}
+use Prim.Native.Nat.{ℕ, _<_}
 use mathlib.Core.List.{List, [], _∷_}
 use mathlib.Core.Path.{_≡_}
 use Rattle.answers.specs.declared.Reply.{Reply}
@@ -22,6 +22,11 @@ placeOf (Refused refusal) = refusal .place
 abbrev pub blocksOf : Answer → ℕ
 blocksOf (Planned blocks) = blocks
 blocksOf (Refused refusal) = 0
+
+-- A refusal has a number above 0. So no refusal is taken for a plan, and an answer is told by its three numbers.
+abbrev pub Proper : Answer → Type 0
+Proper (Planned blocks) = Unit {0}
+Proper (Refused refusal) = 0 < refusal .number
 
 -- A reply is an answer in 01's numbers.
 pub record InNumbers (answer : Answer) (reply : Reply) : Type 0 where

@@ -51,29 +51,29 @@ shorter ℓ f n h p = (
 abbrev pub steady : Fraction → Paces
 steady f i = f
 
--- the pass holds at report i: at the fastest pace throughout, it finishes in time
-abbrev pub Holds : Reports → Fraction → ℕ → Type 0
-Holds ℓ f i = finish ℓ (steady f) i ≼ whole (ℓ .deadline i)
+-- report i is timely: at the fastest pace throughout, it finishes in time
+abbrev pub Timely : Reports → Fraction → ℕ → Type 0
+Timely ℓ f i = finish ℓ (steady f) i ≼ whole (ℓ .deadline i)
 
--- it holds at the first n reports
-abbrev pub HoldsTo : Reports → Fraction → ℕ → Type 0
-HoldsTo ℓ f n = (i : ℕ) → i < n → Holds ℓ f i
+-- the first n reports are
+abbrev pub TimelyTo : Reports → Fraction → ℕ → Type 0
+TimelyTo ℓ f n = (i : ℕ) → i < n → Timely ℓ f i
 
 -- one report more
-pub holds-more : (ℓ : Reports) (f : Fraction) (n : ℕ) → HoldsTo ℓ f n → Holds ℓ f n → HoldsTo ℓ f (suc n)
-holds-more ℓ f n k g i s = ⊎-elim (λ (e : i ≡ n). subst (Holds ℓ f) (sym e) g) (λ l. k i l) (eq-or-lt-of-le (le-of-suc-le-suc s))
+pub timely-more : (ℓ : Reports) (f : Fraction) (n : ℕ) → TimelyTo ℓ f n → Timely ℓ f n → TimelyTo ℓ f (suc n)
+timely-more ℓ f n k g i s = ⊎-elim (λ (e : i ≡ n). subst (Timely ℓ f) (sym e) g) (λ l. k i l) (eq-or-lt-of-le (le-of-suc-le-suc s))
 
 module _ (ℓ : Reports) (f : Fraction) where
   -- any allowed plan finishes no sooner than the fastest
-  pub plan-holds : (n : ℕ) → Plannable (firstOf n ℓ) f → HoldsTo ℓ f n
-  plan-holds n p i h =
+  pub plan-timely : (n : ℕ) → Plannable (firstOf n ℓ) f → TimelyTo ℓ f n
+  plan-timely n p i h =
       ≼-trans (finish-≼ ℓ (p .1 .no-faster) i h)
       (subst (λ (x : Fraction). x ≼ whole (ℓ .deadline i)) (finish-first ℓ (p .0) n i) (p .1 .keeps .in-time i h))
 
   module _ (pos : Positive f) where
     -- where the pass holds, the fastest pace is an allowed plan
-    pub holds-plan : (n : ℕ) → HoldsTo ℓ f n → Plannable (firstOf n ℓ) f
-    holds-plan n k = (
+    pub timely-plan : (n : ℕ) → TimelyTo ℓ f n → Plannable (firstOf n ℓ) f
+    timely-plan n k = (
       steady f,
       record {
         keeps = record {
@@ -85,27 +85,27 @@ module _ (ℓ : Reports) (f : Fraction) where
     )
 
     -- the pass stops at the first report without a plan, and nowhere else
-    pub stops-first : (i : ℕ) → i < ℓ .count → HoldsTo ℓ f i → whole (ℓ .deadline i) ≺ finish ℓ (steady f) i → FirstWithout ℓ f i
+    pub stops-first : (i : ℕ) → i < ℓ .count → TimelyTo ℓ f i → whole (ℓ .deadline i) ≺ finish ℓ (steady f) i → FirstWithout ℓ f i
     stops-first i h k l = record {
       on-list = h;
-      without = λ p. ≺-≼-absurd l (plan-holds (suc i) p i (le-refl (suc i)));
-      least = λ j s. holds-plan (suc j) (λ m e. k m (omega arith));
+      without = λ p. ≺-≼-absurd l (plan-timely (suc i) p i (le-refl (suc i)));
+      least = λ j s. timely-plan (suc j) (λ m e. k m (omega arith));
     }
 
-    pub first-holds : (i : ℕ) → FirstWithout ℓ f i → HoldsTo ℓ f i
-    first-holds i w j s = plan-holds (suc j) (w .least j s) j (le-refl (suc j))
+    pub first-timely : (i : ℕ) → FirstWithout ℓ f i → TimelyTo ℓ f i
+    first-timely i w j s = plan-timely (suc j) (w .least j s) j (le-refl (suc j))
 
     pub first-stops : (i : ℕ) → FirstWithout ℓ f i → whole (ℓ .deadline i) ≺ finish ℓ (steady f) i
     first-stops i w =
         split (whole (ℓ .deadline i)) (finish ℓ (steady f) i) (λ l. l)
-        (λ g. absurd (w .without (holds-plan (suc i) (holds-more ℓ f i (first-holds i w) g))))
+        (λ g. absurd (w .without (timely-plan (suc i) (timely-more ℓ f i (first-timely i w) g))))
 
     -- the pass decides: it holds at the first n reports, or stops at one of them
-    pub runs : (n : ℕ) → n ≤ ℓ .count → HoldsTo ℓ f n ⊎ ((i : ℕ) × FirstWithout ℓ f i)
+    pub runs : (n : ℕ) → n ≤ ℓ .count → TimelyTo ℓ f n ⊎ ((i : ℕ) × FirstWithout ℓ f i)
     runs zero h = inl (λ i k. absurd (not-suc-le-zero k))
     runs (suc n) h =
         ⊎-elim
-        (λ (k : HoldsTo ℓ f n). split (whole (ℓ .deadline n)) (finish ℓ (steady f) n) (λ l. inr (n, stops-first n h k l)) (λ g. inl (holds-more ℓ f n k g)))
+        (λ (k : TimelyTo ℓ f n). split (whole (ℓ .deadline n)) (finish ℓ (steady f) n) (λ l. inr (n, stops-first n h k l)) (λ g. inl (timely-more ℓ f n k g)))
         inr (runs n (omega arith))
 
 -- ---- room
@@ -134,8 +134,8 @@ module _ (ℓ : Reports) (f : Fraction) where
       (λ g. (suc j, le-refl (suc j), ≈-trans (plus-≈ (later-left g) (≈-refl (times (ℓ .operations (suc j)) f))) (≈-sym (on-first ℓ (ℓ .arrival (suc j)) (suc j) f))))
 
   -- the pass holds throughout exactly when the list is roomy
-  pub holds-roomy : HoldsTo ℓ f (ℓ .count) → Roomy ℓ f
-  holds-roomy k i j h l = ≼-trans (no-sooner i j h) (k j l)
+  pub timely-roomy : TimelyTo ℓ f (ℓ .count) → Roomy ℓ f
+  timely-roomy k i j h l = ≼-trans (no-sooner i j h) (k j l)
 
-  pub roomy-holds : Roomy ℓ f → HoldsTo ℓ f (ℓ .count)
-  roomy-holds r j l = let o = on-a-run j in ≼-trans (≈-≼ (o .2)) (r (o .0) j (o .1) l)
+  pub roomy-timely : Roomy ℓ f → TimelyTo ℓ f (ℓ .count)
+  roomy-timely r j l = let o = on-a-run j in ≼-trans (≈-≼ (o .2)) (r (o .0) j (o .1) l)

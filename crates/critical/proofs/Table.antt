@@ -9,7 +9,7 @@ use lib.ListN.{length, getD}
 use Rattle.fraction.specs.Fraction.{Fraction, whole, over, plus, times, later}
 use Rattle.critical.specs.Reports.{Reports, listOf, Positive, start, finish, FirstWithout}
 use Rattle.critical.specs.Rows.{Row, holder, behind, sum, Critical}
-use Rattle.critical.proofs.Room.{steady, stops-first, first-holds, first-stops}
+use Rattle.critical.proofs.Room.{steady, stops-first, first-timely, first-stops}
 use Rattle.critical.proofs.Tests.{Test, test-as, test-and, test-not, test-lt, test-≼, test-≺, test-below, test-critical, and-left, and-right}
 
 -- what a list gets: blocks, or the refusal 9 with its place
@@ -108,7 +108,7 @@ wrong =
 -- a place of refusal is right exactly when the pass holds before it and stops there
 abbrev test-nine : (ℓ : Reports) (i : ℕ) → Test (FirstWithout ℓ P/Q i)
 test-nine ℓ i =
-    test-as (λ s. stops-first ℓ P/Q one i (s .0) (s .1 .0) (s .1 .1)) (λ w. (w .on-list, (first-holds ℓ P/Q one i w, first-stops ℓ P/Q one i w)))
+    test-as (λ s. stops-first ℓ P/Q one i (s .0) (s .1 .0) (s .1 .1)) (λ w. (w .on-list, (first-timely ℓ P/Q one i w, first-stops ℓ P/Q one i w)))
     (test-and (test-lt i (ℓ .count))
     (test-and (test-below i (λ j. test-≼ (finish ℓ (steady P/Q) j) (whole (ℓ .deadline j)))) (test-≺ (whole (ℓ .deadline i)) (finish ℓ (steady P/Q) i))))
 

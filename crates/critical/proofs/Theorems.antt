@@ -12,7 +12,7 @@ use Rattle.critical.specs.Reports.{Reports, Paces, firstOf, Working, Pos
 use Rattle.critical.specs.Rows.{Row, pace, planOf, behind, Busy, CriticalPlan, Critical}
 use Rattle.critical.specs.Cost.{sumAt, slackAt, Cost, Flatter, bill, NoHigher}
 use Rattle.critical.proofs.Runs.{arrives}
-use Rattle.critical.proofs.Room.{steady, HoldsTo, Roomy, plan-holds, holds-plan, stops-first, first-holds, first-stops, runs, shorter, holds-roomy, roomy-holds}
+use Rattle.critical.proofs.Room.{steady, TimelyTo, Roomy, plan-timely, timely-plan, stops-first, first-timely, first-stops, runs, shorter, timely-roomy, roomy-timely}
 use Rattle.critical.proofs.Search.{Stretch, Found, Best, Leaves, _≻_, _≽_, Ready, Scan, way, floor, high, low, rowOf}
 use Rattle.critical.proofs.Cover.{few-rows}
 use Rattle.critical.proofs.Chain.{Chain, Link}
@@ -71,23 +71,23 @@ one-list-of-rows ℓ f g m n rows others working c d =
 pub pass-decides :
     (ℓ : Reports) (fastest : Fraction) (n : ℕ) →
     Positive fastest →
-    Plannable (firstOf n ℓ) fastest ↔ HoldsTo ℓ fastest n
-pass-decides ℓ fastest n pos = (plan-holds ℓ fastest n, holds-plan ℓ fastest pos n)
+    Plannable (firstOf n ℓ) fastest ↔ TimelyTo ℓ fastest n
+pass-decides ℓ fastest n pos = (plan-timely ℓ fastest n, timely-plan ℓ fastest pos n)
 
 -- The least i without a plan is the report where the pass first fails, and no other.
 pub first-failure :
     (ℓ : Reports) (fastest : Fraction) (i : ℕ) →
     Positive fastest →
-    FirstWithout ℓ fastest i ↔ ((i < ℓ .count) × HoldsTo ℓ fastest i × (whole (ℓ .deadline i) ≺ finish ℓ (steady fastest) i))
+    FirstWithout ℓ fastest i ↔ ((i < ℓ .count) × TimelyTo ℓ fastest i × (whole (ℓ .deadline i) ≺ finish ℓ (steady fastest) i))
 first-failure ℓ fastest i pos =
-    (λ w. (w .on-list, first-holds ℓ fastest pos i w, first-stops ℓ fastest pos i w), λ h. stops-first ℓ fastest pos i (h .0) (h .1) (h .2))
+    (λ w. (w .on-list, first-timely ℓ fastest pos i w, first-stops ℓ fastest pos i w), λ h. stops-first ℓ fastest pos i (h .0) (h .1) (h .2))
 
 -- A list has an allowed plan or a first report without one.
 pub plan-or-refusal :
     (ℓ : Reports) (fastest : Fraction) →
     Positive fastest →
     Plannable ℓ fastest ⊎ ((i : ℕ) × FirstWithout ℓ fastest i)
-plan-or-refusal ℓ fastest pos = ⊎-elim (λ h. inl (holds-plan ℓ fastest pos (ℓ .count) h)) inr (runs ℓ fastest pos (ℓ .count) (omega arith))
+plan-or-refusal ℓ fastest pos = ⊎-elim (λ h. inl (timely-plan ℓ fastest pos (ℓ .count) h)) inr (runs ℓ fastest pos (ℓ .count) (omega arith))
 
 -- It has not both.
 pub not-both : (ℓ : Reports) (fastest : Fraction) (i : ℕ) → Plannable ℓ fastest → FirstWithout ℓ fastest i → ⊥
@@ -107,7 +107,7 @@ pub room-decides :
     Positive fastest →
     Plannable ℓ fastest ↔ Roomy ℓ fastest
 room-decides ℓ fastest pos =
-    (λ p. holds-roomy ℓ fastest (plan-holds ℓ fastest (ℓ .count) p), λ r. holds-plan ℓ fastest pos (ℓ .count) (roomy-holds ℓ fastest r))
+    (λ p. timely-roomy ℓ fastest (plan-timely ℓ fastest (ℓ .count) p), λ r. timely-plan ℓ fastest pos (ℓ .count) (roomy-timely ℓ fastest r))
 
 -- A report whose deadline is not behind its arrival has no plan at all.
 pub no-time :

@@ -20,7 +20,7 @@ use Rattle.critical.proofs.Chain.{chain-same, behind-same, chain-critical}
 use Rattle.critical.proofs.Exists.{exists-chain}
 use Rattle.critical.proofs.Theorems.{room-decides, plan-or-refusal, not-both}
 use Rattle.rules.specs.Offsets.{Input, offset, reportsOf, fastestOf}
-use Rattle.rules.specs.Rules.{shortRule, paceRule, operationsRule, planRule, wholeRules, formRules}
+use Rattle.rules.specs.Rules.{shortRule, paceRule, operationsRule, planRule, overallRules, formRules}
 use Rattle.rules.proofs.Table.{decided}
 use Rattle.planner.specs.Outcome.{rowAt, Written, PlanOutcome}
 use Rattle.planner.specs.Inside.{putRow}
@@ -90,7 +90,7 @@ module _ (x : Input) where
   f = fastestOf x
 
   abbrev form : List Rule
-  form = wholeRules x ++ formRules ℓ
+  form = overallRules x ++ formRules ℓ
 
   Some : Type 0
   Some = (number : ℕ) × (place : ℕ) × (blocks : ℕ) × (after : List ℕ) × PlanOutcome x number place blocks after

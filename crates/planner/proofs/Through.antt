@@ -10,7 +10,7 @@ use Rattle.fraction.proofs.Scale.{At, at-whole, at-over, at-le, at-lt}
 use Rattle.critical.specs.Reports.{Reports, Positive, finish, Plannable, FirstWithout}
 use Rattle.critical.proofs.Numbers.{starts, ends}
 use Rattle.critical.proofs.Scaled.{arrivals, at-finish}
-use Rattle.critical.proofs.Room.{steady, HoldsTo, holds-more, holds-plan, stops-first}
+use Rattle.critical.proofs.Room.{steady, TimelyTo, timely-more, timely-plan, stops-first}
 
 -- Q times the finish of the report before i, nil before the first
 unfoldable pub through : Reports → ℕ → ℕ → ℕ → ℕ
@@ -38,14 +38,14 @@ module _ (ℓ : Reports) (P Q : ℕ) (posP : 1 ≤ P) (posQ : 1 ≤ Q) where
   unfolding over
   positive = posP
 
-  pub stops-at : (i : ℕ) → i < ℓ .count → HoldsTo ℓ (over P Q) i → Q * ℓ .deadline i < through ℓ P Q (i + 1) → FirstWithout ℓ (over P Q) i
+  pub stops-at : (i : ℕ) → i < ℓ .count → TimelyTo ℓ (over P Q) i → Q * ℓ .deadline i < through ℓ P Q (i + 1) → FirstWithout ℓ (over P Q) i
   stops-at i h k l = stops-first ℓ (over P Q) positive i h k (at-lt (at-whole Q (ℓ .deadline i)) (at-through i) l)
 
-  pub holds-on : (i : ℕ) → HoldsTo ℓ (over P Q) i → through ℓ P Q (i + 1) ≤ Q * ℓ .deadline i → HoldsTo ℓ (over P Q) (i + 1)
-  holds-on i k l = rw (add-one i) (holds-more ℓ (over P Q) i k (at-le (at-through i) (at-whole Q (ℓ .deadline i)) posQ l))
+  pub timely-on : (i : ℕ) → TimelyTo ℓ (over P Q) i → through ℓ P Q (i + 1) ≤ Q * ℓ .deadline i → TimelyTo ℓ (over P Q) (i + 1)
+  timely-on i k l = rw (add-one i) (timely-more ℓ (over P Q) i k (at-le (at-through i) (at-whole Q (ℓ .deadline i)) posQ l))
 
-  pub passes : HoldsTo ℓ (over P Q) (ℓ .count) → Plannable ℓ (over P Q)
-  passes k = holds-plan ℓ (over P Q) positive (ℓ .count) k
+  pub passes : TimelyTo ℓ (over P Q) (ℓ .count) → Plannable ℓ (over P Q)
+  passes k = timely-plan ℓ (over P Q) positive (ℓ .count) k
 
 pub through-zero : (ℓ : Reports) (P Q : ℕ) → _≡_ {A = ℕ} 0 (through ℓ P Q 0)
 unfolding through

@@ -9,13 +9,13 @@ use native.Mathlib.Decide.{ℕ-discrete, decLt}
 use lib.ListN.{getD, List·getD-eq-default}
 use Rattle.trials.specs.Rules.{Falls}
 use Rattle.trials.proofs.Passing.{Passed}
-use Rattle.trials.proofs.Deciding.{dec-below, dec-equal, dec-not, dec-or, dec-falls, Decided, decides-none, decides-whole, decides-least, least-or-none, passes, passed-by}
+use Rattle.trials.proofs.Deciding.{dec-below, dec-equal, dec-not, dec-or, dec-falls, Decided, decides-none, decides-overall, decides-least, least-or-none, passes, passed-by}
 use Rattle.fraction.specs.Fraction.{whole, over, plus, times, later}
 use Rattle.critical.specs.Reports.{start}
 use Rattle.critical.specs.Rows.{holder, behind, sum, Critical}
 use Rattle.critical.proofs.Tests.{test-critical}
 use Rattle.rules.specs.Offsets.{Input, reportsOf, fastestOf}
-use Rattle.rules.specs.Rules.{wholeRules, formRules}
+use Rattle.rules.specs.Rules.{overallRules, formRules}
 use Rattle.planner.specs.Outcome.{rowAt, PlanOutcome}
 use Rattle.planner.proofs.Outcomes.{accepts}
 use Rattle.rules.proofs.Table.{decided}
@@ -53,8 +53,8 @@ pub crowded-rows : List ℕ
 crowded-rows = 0 ∷ 0 ∷ 0 ∷ 4 ∷ 2 ∷ 1 ∷ 1 ∷ 4 ∷ 12 ∷ 2 ∷ 2 ∷ 2 ∷ 12 ∷ 16 ∷ 2 ∷ []
 
 -- its rules are silent, which is computed; the rows are those of the plan wanted
-crowded-form : Passed (wholeRules crowded ++ formRules (reportsOf crowded))
-unfolding crowded decided passes Decided dec-below dec-equal dec-not dec-or dec-falls decides-none decides-whole decides-least least-or-none Falls ℕ-discrete decLt
+crowded-form : Passed (overallRules crowded ++ formRules (reportsOf crowded))
+unfolding crowded decided passes Decided dec-below dec-equal dec-not dec-or dec-falls decides-none decides-overall decides-least least-or-none Falls ℕ-discrete decLt
 crowded-form = passed-by (decided crowded) tt
 
 crowded-critical : Critical (reportsOf crowded) (fastestOf crowded) 3 (rowAt crowded-rows)
@@ -64,7 +64,7 @@ crowded-critical = test-critical (reportsOf crowded) (fastestOf crowded) 3 (rowA
 pub crowded-right : PlanOutcome crowded 0 0 3 crowded-rows
 unfolding crowded crowded-rows
 crowded-right =
-    accepts (reportsOf crowded) (fastestOf crowded) (crowded .buffer) (wholeRules crowded ++ formRules (reportsOf crowded)) 3 crowded-rows crowded-form (record {
+    accepts (reportsOf crowded) (fastestOf crowded) (crowded .buffer) (overallRules crowded ++ formRules (reportsOf crowded)) 3 crowded-rows crowded-form (record {
       rows = crowded-critical;
       as-long = refl;
       behind = λ i h. List·getD-eq-default crowded-rows 0 h ∙ sym (List·getD-eq-default (crowded .buffer) 0 h);

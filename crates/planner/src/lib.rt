@@ -13,7 +13,7 @@ mod readings;
 mod search;
 mod settle;
 
-ghost use Rattle.answers.specs.Numbers.{numberOf, placeOf, blocksOf};
+ghost use Rattle.answers.specs.Numbers.{Proper, numberOf, placeOf, blocksOf};
 ghost use Rattle.planner.specs.Outcome.{PlanOutcome};
 
 // Plans a list: three lists of readings, the terms that they come with (reference, P and Q), and a
@@ -26,6 +26,7 @@ pub fn plan(
     rows: &mut [u32],
 ) -> Answer
     ensures { λ r. ⌜ PlanOutcome (record { arrivals = now (arrivals .entry); deadlines = now (deadlines .entry); operations = now (operations .entry); terms = terms; buffer = now (rows .entry) }) (numberOf r) (placeOf r) (blocksOf r) (now (rows .exit)) ⌝ }
+    ensures { λ r. ⌜ Proper r ⌝ }
 {
     let tried = count_rules(
         Verdict::Silent,

@@ -10,7 +10,7 @@ use trials::Verdict;
 ghost use mathlib.Core.List.{[], _∷_};
 ghost use Prim.Native.Nat.{_*_, _≤_};
 ghost use lib.ListN.{length};
-ghost use Rattle.answers.specs.Numbers.{width};
+ghost use Rattle.answers.specs.Numbers.{Proper, width};
 ghost use Rattle.critical.specs.Reports.{listOf};
 ghost use Rattle.rules.specs.Offsets.{offsetsOf, paceOf};
 ghost use Rattle.rules.specs.Rules.{planRule, reportRules};
@@ -29,6 +29,7 @@ fn plan_fair(
     requires room { ⌜ width * length (now arrivals) ≤ length (now rows) ⌝ }
     requires pace { ⌜ Paced terms ⌝ }
     ensures { λ r. ⌜ Settles (planRule (listOf (now (arrivals .entry)) (now (deadlines .entry)) (now (operations .entry))) (paceOf terms) ∷ []) (listOf (now (arrivals .entry)) (now (deadlines .entry)) (now (operations .entry))) terms (now (rows .entry)) r (now (rows .exit)) ⌝ }
+    ensures { λ r. ⌜ Proper r ⌝ }
 {
     let without = pass::first_without(arrivals, deadlines, operations, terms);
     if without < arrivals.len() {
@@ -52,6 +53,7 @@ pub fn settle(
     requires sized { ⌜ Sized (now arrivals) (now deadlines) (now operations) (now rows) ⌝ }
     requires pace { ⌜ Paced terms ⌝ }
     ensures { λ r. ⌜ Settles (reportRules (listOf (now (arrivals .entry)) (now (deadlines .entry)) (now (operations .entry))) (paceOf terms)) (listOf (now (arrivals .entry)) (now (deadlines .entry)) (now (operations .entry))) terms (now (rows .entry)) r (now (rows .exit)) ⌝ }
+    ensures { λ r. ⌜ Proper r ⌝ }
 {
     let tried = forms::form_rules(Verdict::Silent, arrivals, deadlines, operations);
     if let Verdict::Given(refusal) = tried {
@@ -71,6 +73,7 @@ pub fn settle_readings(
     requires sized { ⌜ Sized (now arrivals) (now deadlines) (now operations) (now rows) ⌝ }
     requires pace { ⌜ Paced terms ⌝ }
     ensures { λ r. ⌜ Settles (reportRules (offsetsOf (terms .reference) (now (arrivals .entry)) (now (deadlines .entry)) (now (operations .entry))) (paceOf terms)) (offsetsOf (terms .reference) (now (arrivals .entry)) (now (deadlines .entry)) (now (operations .entry))) terms (now (rows .entry)) r (now (rows .exit)) ⌝ }
+    ensures { λ r. ⌜ Proper r ⌝ }
 {
     let n = arrivals.len();
     let reference = terms.reference;

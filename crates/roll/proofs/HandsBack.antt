@@ -1,31 +1,23 @@
--- What the reader hands back, by the trailer's answer.
+-- The numbers that the reader hands back, by the trailer's answer.
 -- Assumes nothing.
 use Prim.Native.Nat.{ℕ}
-use mathlib.Core.Path.{_≡_, refl, subst}
+use mathlib.Core.Path.{_≡_, ap, _∙_}
 use mathlib.Core.List.{List}
 use Rattle.answers.specs.declared.Refusal.{Refusal}
+use Rattle.trials.specs.Rules.{Refuses}
 use Rattle.trials.proofs.Single.{one-refusal, not-refused}
 use Rattle.roll.specs.Format.{fileRules}
-use Rattle.roll.specs.Answers.{FoundIs, NumbersIs}
+use Rattle.roll.specs.Answers.{NumbersRead, NumbersIs, numbersRefused}
+use Rattle.roll.specs.declared.Numbers.{Numbers}
 use Rattle.roll.specs.declared.Trailer.{Trailer}
-use Rattle.roll.specs.declared.Found.{Found}
-use Rattle.roll.specs.declared.Found.the-variants.{Is, Not}
-use Rattle.roll.proofs.FileRules.{FileHas, found-has}
+use Rattle.roll.proofs.FileRules.{FileHas}
 use Rattle.roll.proofs.OneResult.{single-file}
 
-pub numbers-found : {s : List ℕ} {found : Found} {t : Trailer} → FoundIs s found → found ≡ Is t → NumbersIs s (record { refusal = 0; trailer = t })
-numbers-found {s} {t = t} is e =
-    let g : FileHas s t = found-has is e in
-    record {
-      accepted = λ a. (refl, g .trailer);
-      refused = λ number place r. absurd (not-refused (fileRules s) (g .passed .accepted) number place r);
-    }
+pub numbers-read : {s : List ℕ} {t : Trailer} {n : Numbers} → FileHas s t → NumbersRead s n → NumbersIs s n
+numbers-read {s} g r = record { accepted = λ _. r; refused = λ number place q. absurd (not-refused (fileRules s) (g .passed .accepted) number place q) }
 
-pub numbers-refused : {s : List ℕ} {found : Found} {a : Refusal} → FoundIs s found → found ≡ Not a → NumbersIs s (record { refusal = a .number; trailer = record { count = 0; terms = record { reference = 0; p = 0; q = 0 } } })
-unfolding FoundIs
-numbers-refused {s} {a = a} is e =
-    let g : FoundIs s (Not a) = subst (FoundIs s) e is in
-    record {
-      accepted = λ q. absurd (not-refused (fileRules s) q (a .number) (a .place) (g .refused));
-      refused = λ number place r. (one-refusal (fileRules s) (single-file s .single) (a .number) (a .place) number place (g .refused) r .0, refl);
-    }
+pub refused-numbers : {s : List ℕ} {a : Refusal} {n : Numbers} → Refuses (fileRules s) a → n ≡ numbersRefused (a .number) → NumbersIs s n
+refused-numbers {s} {a} r e = record {
+  accepted = λ q. absurd (not-refused (fileRules s) q (a .number) (a .place) (r .refused));
+  refused = λ number place q. e ∙ ap (λ (k : ℕ). numbersRefused k) (one-refusal (fileRules s) (single-file s .single) (a .number) (a .place) number place (r .refused) q .0);
+}

@@ -6,6 +6,8 @@ use mathlib.Core.List.{List}
 use mathlib.Core.Logic.{_⊎_, inl, inr, ⊎-elim}
 use native.Mathlib.Decide.{ℕ-discrete}
 use lib.ListN.{length, getD}
+use denote.Ref.{RefT}
+use Rattle.trials.specs.Rules.{Accepted, Refused}
 use Rattle.trials.proofs.Passing.{Passed, last-part}
 use Rattle.trials.proofs.Single.{Soles, singly, not-refused, one-refuses}
 use Rattle.trials.proofs.Deciding.{Decidable, Decides, Gives, deciding, passed-or-given}
@@ -15,11 +17,12 @@ use Rattle.rules.specs.declared.Roll.{Roll}
 use Rattle.planner.proofs.OneResult.{one-outcome}
 use Rattle.rules.proofs.Table.{one-plan-rule, works}
 use Rattle.roll.specs.Format.{Marked, fileRules, inputOf, rollRules, RollOutcome}
-use Rattle.roll.specs.Answers.{FoundIs, TrailerIs, NumbersIs, PartIs}
+use Rattle.roll.specs.Answers.{TrailerAnswerIs, TrailerIs, NumbersRead, NumbersIs, PartFrom, PartIs}
 use Rattle.roll.specs.declared.Trailer.{Trailer}
 use Rattle.roll.specs.declared.Numbers.{Numbers}
-use Rattle.roll.specs.declared.Found.{Found}
-use Rattle.roll.specs.declared.Found.the-variants.{Is, Not}
+use Rattle.roll.specs.declared.Reading.{Reading}
+use Rattle.roll.specs.declared.TrailerAnswer.{TrailerAnswer}
+use Rattle.roll.specs.declared.TrailerAnswer.the-variants.{Is, Not}
 
 -- ---- each rule is given with one place only
 pub single-file : (s : List ℕ) → Soles (fileRules s)
@@ -48,12 +51,12 @@ one-trailer s t u v w =
     ap (λ (z : ℕ). trailer z (t .terms)) (v .count-is ∙ sym (w .count-is)) ∙ ap (trailer (u .count)) (v .terms-is ∙ sym (w .terms-is))
 
 -- The promise of `read_trailer` allows one answer for each string of bytes.
-pub one-found : (s : List ℕ) (r r′ : Found) → FoundIs s r → FoundIs s r′ → r ≡ r′
-unfolding FoundIs
-one-found s (Is t) (Is u) v w = ap Is (one-trailer s t u (v .1) (w .1))
-one-found s (Is t) (Not b) v w = absurd (not-refused (fileRules s) (v .0) (b .number) (b .place) (w .refused))
-one-found s (Not a) (Is u) v w = absurd (not-refused (fileRules s) (w .0) (a .number) (a .place) (v .refused))
-one-found s (Not a) (Not b) v w = ap Not (one-refuses (single-file s) v w)
+pub one-trailer-answer : (s : List ℕ) (r r′ : TrailerAnswer) → TrailerAnswerIs s r → TrailerAnswerIs s r′ → r ≡ r′
+unfolding TrailerAnswerIs
+one-trailer-answer s (Is t) (Is u) v w = ap Is (one-trailer s t u (v .1) (w .1))
+one-trailer-answer s (Is t) (Not b) v w = absurd (not-refused (fileRules s) (v .0) (b .number) (b .place) (w .refused))
+one-trailer-answer s (Not a) (Is u) v w = absurd (not-refused (fileRules s) (w .0) (a .number) (a .place) (v .refused))
+one-trailer-answer s (Not a) (Not b) v w = ap Not (one-refuses (single-file s) v w)
 
 -- ---- records
 -- every string of bytes is accepted or refused by the file rules
@@ -71,25 +74,38 @@ decides-file s = search (deciding, dec-marked) depth 40
 pub file-decided : (s : List ℕ) → Passed (fileRules s) ⊎ Gives (fileRules s)
 file-decided s = passed-or-given (decides-file s)
 
--- The promise of `records` allows one part for each string of bytes.
-pub one-part : (s part part′ : List ℕ) → PartIs s part → PartIs s part′ → part ≡ part′
-one-part s part part′ v w =
-    ⊎-elim (λ p. v .accepted (p .accepted) ∙ sym (w .accepted (p .accepted))) (λ g. v .refused (g .number) (g .place) (g .refused) ∙ sym (w .refused (g .number) (g .place) (g .refused))) (file-decided s)
+-- what a promise by the file rules says of two results holds, whichever way they go
+by-file : (s : List ℕ) (F : Type 0) → (Accepted (fileRules s) → F) → ((number place : ℕ) → Refused (fileRules s) number place → F) → F
+by-file s F yes no = ⊎-elim (λ p. yes (p .accepted)) (λ g. no (g .number) (g .place) (g .refused)) (file-decided s)
+
+-- A slice is its bytes and where they lie.
+abbrev pub SameSlice : RefT (List ℕ) → RefT (List ℕ) → Type 0
+SameSlice a b = (a .now ≡ b .now) × (a .ptr ≡ b .ptr)
+
+one-part-from : {s a b : RefT (List ℕ)} {at size : ℕ} → PartFrom s at size a → PartFrom s at size b → SameSlice a b
+one-part-from v w = (v .bytes ∙ sym (w .bytes), v .lies ∙ sym (w .lies))
+
+-- The promise of `records` allows one part for each string of bytes, where it lies.
+pub one-part : (s a b : RefT (List ℕ)) → PartIs s a → PartIs s b → SameSlice a b
+one-part s a b v w = by-file (s .now) (SameSlice a b) (λ q. one-part-from (v .accepted q) (w .accepted q)) (λ number place q. one-part-from (v .refused number place q) (w .refused number place q))
 
 -- ---- read_numbers, and read
-numbers : ℕ → Trailer → Numbers
-numbers k t = record { refusal = k; trailer = t }
+numbers : ℕ → Trailer → ℕ → ℕ → Numbers
+numbers k t at size = record { refusal = k; trailer = t; at = at; size = size }
+
+one-numbers-read : (s : List ℕ) (m n : Numbers) → NumbersRead s m → NumbersRead s n → m ≡ n
+unfolding numbers
+one-numbers-read s m n v w =
+    ap (λ (k : ℕ). numbers k (m .trailer) (m .at) (m .size)) (v .refusal-is ∙ sym (w .refusal-is))
+    ∙ ap (λ (t : Trailer). numbers (n .refusal) t (m .at) (m .size)) (one-trailer s (m .trailer) (n .trailer) (v .trailer-is) (w .trailer-is))
+    ∙ ap (λ (k : ℕ). numbers (n .refusal) (n .trailer) k (m .size)) (v .at-is ∙ sym (w .at-is))
+    ∙ ap (numbers (n .refusal) (n .trailer) (n .at)) (v .size-is ∙ sym (w .size-is))
 
 -- The promise of `read_numbers` allows one answer for each string of bytes.
-pub one-numbers : (s : List ℕ) (n n′ : Numbers) → NumbersIs s n → NumbersIs s n′ → n ≡ n′
-unfolding numbers
-one-numbers s n n′ v w =
-    ⊎-elim (λ p. let a = v .accepted (p .accepted) in let b = w .accepted (p .accepted) in same (a .0 ∙ sym (b .0)) (one-trailer s (n .trailer) (n′ .trailer) (a .1) (b .1)))
-    (λ g. let a = v .refused (g .number) (g .place) (g .refused) in let b = w .refused (g .number) (g .place) (g .refused) in same (a .0 ∙ sym (b .0)) (a .1 ∙ sym (b .1))) (file-decided s)
-  where
-    same : n .refusal ≡ n′ .refusal → n .trailer ≡ n′ .trailer → n ≡ n′
-    same e t = ap (λ (k : ℕ). numbers k (n .trailer)) e ∙ ap (numbers (n′ .refusal)) t
+pub one-numbers : (s : List ℕ) (m n : Numbers) → NumbersIs s m → NumbersIs s n → m ≡ n
+one-numbers s m n v w =
+    by-file s (m ≡ n) (λ q. one-numbers-read s m n (v .accepted q) (w .accepted q)) (λ number place q. v .refused number place q ∙ sym (w .refused number place q))
 
--- The promise of `read` allows one answer and one part.
-pub one-reading : (s : List ℕ) (n n′ : Numbers) (part part′ : List ℕ) → NumbersIs s n × PartIs s part → NumbersIs s n′ × PartIs s part′ → (n ≡ n′) × (part ≡ part′)
-one-reading s n n′ part part′ v w = (one-numbers s n n′ (v .0) (w .0), one-part s part part′ (v .1) (w .1))
+-- The promise of `read` allows one reading: the same numbers, and the same part where it lies.
+pub one-reading : (s : RefT (List ℕ)) (a b : Reading) → NumbersIs (s .now) (a .numbers) × PartIs s (a .part) → NumbersIs (s .now) (b .numbers) × PartIs s (b .part) → (a .numbers ≡ b .numbers) × SameSlice (a .part) (b .part)
+one-reading s a b v w = (one-numbers (s .now) (a .numbers) (b .numbers) (v .0) (w .0), one-part s (a .part) (b .part) (v .1) (w .1))

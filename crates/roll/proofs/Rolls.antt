@@ -1,32 +1,24 @@
 -- The outcome of a roll: of a trailer that is refused, and of the list in it.
 -- Assumes nothing.
 use Prim.Native.Nat.{ℕ, _+_, _*_, _-_, _≤_}
-use mathlib.Core.Path.{_≡_, refl, sym, _∙_, ap, subst}
+use mathlib.Core.Path.{_≡_, sym, _∙_, ap, subst}
 use mathlib.Core.List.{List}
 use native.Mathlib.Omega.{arith}
-use denote.Enum.Declared.{tagOf}
 use lib.ListN.{length, drop, length-drop}
 use lib.Seq.{length-take-le}
-use Rattle.answers.specs.Numbers.{numberOf, placeOf, blocksOf}
-use Rattle.answers.specs.declared.Answer.{Answer}
-use Rattle.answers.specs.declared.Answer.the-variants.{Refused}
 use Rattle.answers.specs.declared.Refusal.{Refusal}
 use Rattle.trials.specs.Rules.{Refuses}
 use Rattle.trials.specs.Tries.{After}
 use Rattle.trials.specs.declared.Verdict.{Verdict}
 use Rattle.trials.proofs.Passing.{Passed, Quiet, finding}
 use Rattle.rules.specs.Offsets.{Input, reportsOf, fastestOf}
-use Rattle.rules.specs.Rules.{manyRule, countRules, wholeRules, reportRules, planRules}
+use Rattle.rules.specs.Rules.{manyRule, countRules, overallRules, reportRules, planRules}
 use Rattle.planner.specs.Outcome.{PlanOutcome}
 use Rattle.rules.specs.declared.Roll.{Roll}
 use Rattle.rules.proofs.Leaving.{few-reports}
 use Rattle.planner.proofs.Outcomes.{hands-up, goes-on}
-use Rattle.roll.specs.Format.{u32At, backOf, countOf, termsOf, fileRules, recordsOf, columnIn, inputIn, inputOf, RollOutcome}
-use Rattle.roll.specs.Answers.{FoundIs, PartIs, HandedUp}
+use Rattle.roll.specs.Format.{u32At, countOf, termsOf, fileRules, recordsAt, recordsOf, columnIn, inputIn, inputOf, RollOutcome}
 use Rattle.roll.specs.declared.Trailer.{Trailer}
-use Rattle.roll.specs.declared.Found.{Found}
-use Rattle.roll.specs.declared.Found.the-variants.{Is, Not}
-use Rattle.roll.proofs.Found.{the-type}
 use Rattle.roll.proofs.FileRules.{FileIs, file-is, FileHas}
 use Rattle.lists.proofs.Filling.{length-listed}
 
@@ -39,16 +31,13 @@ module _ (s buffer : List ℕ) where
   x = inputOf s buffer
 
   -- ---- a trailer that is refused
-  pub refused-roll : (found : Found) (answer : Answer) → FoundIs s found → tagOf the-type found ≡ 1 → HandedUp found answer → RollOutcome s buffer (numberOf answer) (placeOf answer) (blocksOf answer) buffer
-  unfolding FoundIs HandedUp
-  refused-roll (Is t) answer is e h = absurd (omega (arith, e))
-  refused-roll (Not a) answer is e h =
-      subst (λ (r : Answer). RollOutcome s buffer (numberOf r) (placeOf r) (blocksOf r) buffer) (sym h) (hands-up (reportsOf x) (fastestOf x) buffer (fileRules s) (planRules x) is)
+  pub refused-roll : {a : Refusal} → Refuses (fileRules s) a → RollOutcome s buffer (a .number) (a .place) 0 buffer
+  refused-roll r = hands-up (reportsOf x) (fastestOf x) buffer (fileRules s) (planRules x) r
 
-  -- ---- a trailer that is found
+  -- ---- a trailer that is there
   module _ (t : Trailer) (g : FileHas s t) where
     -- the rules of the whole list, tried of the trailer's numbers
-    pub counted : {v r : Verdict} → After v (countRules (t .count) (t .count) (t .count) (t .terms) (length buffer)) r → After v (wholeRules x) r
+    pub counted : {v r : Verdict} → After v (countRules (t .count) (t .count) (t .count) (t .terms) (length buffer)) r → After v (overallRules x) r
     counted {v} {r} h =
         let e : (at : ℕ) → t .count ≡ length (columnIn (recordsOf s) (countOf s) at) = λ at. g .trailer .count-is ∙ sym (column-long (recordsOf s) (countOf s) at) in
         subst (λ (a : ℕ). After v (countRules a (length (x .deadlines)) (length (x .operations)) (x .terms) (length buffer)) r) (e 0)
@@ -57,32 +46,32 @@ module _ (s buffer : List ℕ) where
         (subst (λ (z : Roll). After v (countRules (t .count) (t .count) (t .count) z (length buffer)) r) (g .trailer .terms-is) h)))
 
     -- one of them is given
-    pub refused-list : {a : Refusal} → Refuses (wholeRules x) a → RollOutcome s buffer (a .number) (a .place) 0 buffer
+    pub refused-list : {a : Refusal} → Refuses (overallRules x) a → RollOutcome s buffer (a .number) (a .place) 0 buffer
     refused-list {a} r =
         goes-on (reportsOf x) (fastestOf x) buffer (fileRules s) (planRules x) (a .number) (a .place) 0 buffer (g .passed)
-        (hands-up (reportsOf x) (fastestOf x) buffer (wholeRules x) (reportRules (reportsOf x) (fastestOf x)) r)
+        (hands-up (reportsOf x) (fastestOf x) buffer (overallRules x) (reportRules (reportsOf x) (fastestOf x)) r)
 
     -- none is: there are few enough records
-    pub few-records : Passed (wholeRules x) → t .count ≤ 1024
+    pub few-records : Passed (overallRules x) → t .count ≤ 1024
     few-records p =
         let many : Quiet (manyRule (length (x .arrivals))) = search finding depth 40 in
         omega (arith, few-reports many, column-long (recordsOf s) (countOf s) 0, g .trailer .count-is)
 
     -- its part is as long as its records
-    pub part-long : {part : List ℕ} → PartIs s part → 12 * (t .count) ≤ length part
-    part-long {part} p =
+    pub part-long : (part : List ℕ) → part ≡ recordsOf s → 12 * (t .count) ≤ length part
+    part-long part p =
         let f : FileIs s = file-is s (g .passed) in
-        let rest = drop (length s - backOf s) s in
-        let d : length rest ≡ length s - (length s - backOf s) = length-drop (length s - backOf s) s in
+        let rest = drop (recordsAt s) s in
+        let d : length rest ≡ length s - recordsAt s = length-drop (recordsAt s) s in
         let l : length (recordsOf s) ≡ 12 * countOf s = length-take-le (12 * countOf s) rest (omega (arith, d, f .back-is, f .back-in)) in
-        let e : length part ≡ length (recordsOf s) = ap length (p .accepted (g .passed .accepted)) in
+        let e : length part ≡ length (recordsOf s) = ap length p in
         omega (arith, e, l, g .trailer .count-is)
 
     -- and the list planned is the one in the roll
-    pub planned-roll : (part : List ℕ) (number place blocks : ℕ) (after : List ℕ) → PartIs s part → PlanOutcome (inputIn part (t .count) (t .terms) buffer) number place blocks after → RollOutcome s buffer number place blocks after
+    pub planned-roll : (part : List ℕ) (number place blocks : ℕ) (after : List ℕ) → part ≡ recordsOf s → PlanOutcome (inputIn part (t .count) (t .terms) buffer) number place blocks after → RollOutcome s buffer number place blocks after
     planned-roll part number place blocks after p o =
         goes-on (reportsOf x) (fastestOf x) buffer (fileRules s) (planRules x) number place blocks after (g .passed)
-        (subst (λ (a : List ℕ). PlanOutcome (inputIn a (countOf s) (termsOf s) buffer) number place blocks after) (p .accepted (g .passed .accepted))
+        (subst (λ (a : List ℕ). PlanOutcome (inputIn a (countOf s) (termsOf s) buffer) number place blocks after) p
         (subst (λ (a : ℕ). PlanOutcome (inputIn part a (termsOf s) buffer) number place blocks after) (g .trailer .count-is)
         (subst (λ (a : Roll). PlanOutcome (inputIn part (t .count) a buffer) number place blocks after) (g .trailer .terms-is) o)))
 
@@ -96,13 +85,3 @@ same-lists xs ys ws xs′ ys′ ws′ terms buffer number place blocks after e e
     subst (λ (a : List ℕ). PlanOutcome (record { arrivals = a; deadlines = ys′; operations = ws′; terms = terms; buffer = buffer }) number place blocks after) e
     (subst (λ (a : List ℕ). PlanOutcome (record { arrivals = xs; deadlines = a; operations = ws′; terms = terms; buffer = buffer }) number place blocks after) e′
     (subst (λ (a : List ℕ). PlanOutcome (record { arrivals = xs; deadlines = ys; operations = a; terms = terms; buffer = buffer }) number place blocks after) e″ o))
-
--- ---- a refusal handed up
-pub not-handed : (found : Found) (answer : Answer) → tagOf the-type found ≡ 0 → HandedUp found answer
-unfolding HandedUp
-not-handed (Is t) answer e = tt
-not-handed (Not a) answer e = absurd (omega (arith, e))
-
-pub handed : (found : Found) (a : Refusal) → found ≡ Not a → HandedUp found (Refused a)
-unfolding HandedUp
-handed found a e = subst (λ (r : Found). HandedUp r (Refused a)) (sym e) refl

@@ -1,38 +1,60 @@
--- What the reader and the planner of a roll give back.
+-- What the reader of a roll gives back.
 -- Assumes nothing.
-use Prim.Native.Nat.{ℕ}
+use Prim.Native.Nat.{ℕ, _+_}
 use mathlib.Core.Path.{_≡_}
-use mathlib.Core.List.{List, []}
+use mathlib.Core.List.{List}
+use lib.ListN.{take, drop}
+use denote.Ref.{RefT}
 use Rattle.trials.specs.Rules.{Refused, Accepted, Refuses}
-use Rattle.roll.specs.Format.{countOf, termsOf, fileRules, recordsOf}
+use Rattle.roll.specs.Format.{countOf, termsOf, fileRules, recordsAt, recordsLong}
+use Rattle.answers.specs.declared.Refusal.{Refusal}
 use Rattle.roll.specs.declared.Trailer.{Trailer}
 use Rattle.roll.specs.declared.Numbers.{Numbers}
-use Rattle.roll.specs.declared.Found.{Found}
-use Rattle.roll.specs.declared.Found.the-variants.{Is, Not}
-use Rattle.answers.specs.declared.Answer.{Answer}
-use Rattle.answers.specs.declared.Answer.the-variants.{Refused as Refusing}
+use Rattle.roll.specs.declared.TrailerAnswer.{TrailerAnswer}
+use Rattle.roll.specs.declared.TrailerAnswer.the-variants.{Is, Not}
 
 -- A trailer's numbers are those of the roll.
 pub record TrailerIs (s : List ℕ) (t : Trailer) : Type 0 where
   pub count-is : t .count ≡ countOf s
   pub terms-is : t .terms ≡ termsOf s
 
--- The trailer is found where no file rule is given; else the refusal is that of the first that is.
-unfoldable pub FoundIs : List ℕ → Found → Type 0
-FoundIs s (Is t) = Accepted (fileRules s) × TrailerIs s t
-FoundIs s (Not refusal) = Refuses (fileRules s) refusal
+-- The trailer is there where no file rule is given; else the refusal is that of the first that is.
+unfoldable pub TrailerAnswerIs : List ℕ → TrailerAnswer → Type 0
+TrailerAnswerIs s (Is t) = Accepted (fileRules s) × TrailerIs s t
+TrailerAnswerIs s (Not refusal) = Refuses (fileRules s) refusal
 
--- The refusal's number and the trailer's numbers: 0 and those of the roll; on a refusal its number, and the others are 0.
+-- The refusal in a trailer's answer; number 0 and place 0 where the trailer is there.
+abbrev pub refusalIn : TrailerAnswer → Refusal
+refusalIn (Is t) = record { number = 0; place = 0 }
+refusalIn (Not refusal) = refusal
+
+-- What is read of a roll, in numbers: no refusal, the trailer's numbers, and where the part with the records lies, and its size.
+pub record NumbersRead (s : List ℕ) (n : Numbers) : Type 0 where
+  pub refusal-is : n .refusal ≡ 0
+  pub trailer-is : TrailerIs s (n .trailer)
+  pub at-is : n .at ≡ recordsAt s
+  pub size-is : n .size ≡ recordsLong s
+
+-- On a refusal its number, and the others are 0.
+abbrev pub numbersRefused : ℕ → Numbers
+numbersRefused number = record {
+  refusal = number;
+  trailer = record { count = 0; terms = record { reference = 0; p = 0; q = 0 } };
+  at = 0;
+  size = 0;
+}
+
+-- The reader's numbers, for every string of bytes.
 pub record NumbersIs (s : List ℕ) (n : Numbers) : Type 0 where
-  pub accepted : Accepted (fileRules s) → (n .refusal ≡ 0) × TrailerIs s (n .trailer)
-  pub refused : (number place : ℕ) → Refused (fileRules s) number place → (n .refusal ≡ number) × (n .trailer ≡ record { count = 0; terms = record { reference = 0; p = 0; q = 0 } })
+  pub accepted : Accepted (fileRules s) → NumbersRead s n
+  pub refused : (number place : ℕ) → Refused (fileRules s) number place → n ≡ numbersRefused number
 
--- The part with the records; empty on a refusal.
-pub record PartIs (s part : List ℕ) : Type 0 where
-  pub accepted : Accepted (fileRules s) → part ≡ recordsOf s
-  pub refused : (number place : ℕ) → Refused (fileRules s) number place → part ≡ []
+-- A part of the caller's bytes, no copy: so many of them, lying where they lie there.
+pub record PartFrom (s : RefT (List ℕ)) (at size : ℕ) (part : RefT (List ℕ)) : Type 0 where
+  pub bytes : part .now ≡ take size (drop at (s .now))
+  pub lies : part .ptr ≡ (s .ptr .0, s .ptr .1 + at)
 
--- The refusal of a trailer, handed up.
-unfoldable pub HandedUp : Found → Answer → Type 0
-HandedUp (Is t) r = Unit {0}
-HandedUp (Not refusal) r = r ≡ Refusing refusal
+-- The part with the records; no bytes on a refusal.
+pub record PartIs (s part : RefT (List ℕ)) : Type 0 where
+  pub accepted : Accepted (fileRules (s .now)) → PartFrom s (recordsAt (s .now)) (recordsLong (s .now)) part
+  pub refused : (number place : ℕ) → Refused (fileRules (s .now)) number place → PartFrom s 0 0 part

@@ -6,7 +6,7 @@ use mathlib.Core.Path.{_≡_}
 use mathlib.Core.List.{List, [], _∷_, _++_}
 use lib.ListN.{length, getD, take, drop}
 use Rattle.lists.specs.Listed.{listed}
-use Rattle.trials.specs.Rules.{Rule, rule, Whole}
+use Rattle.trials.specs.Rules.{Rule, rule, Overall}
 use Rattle.rules.specs.Offsets.{Input, reportsOf, fastestOf}
 use Rattle.rules.specs.Rules.{planRules}
 use Rattle.rules.specs.declared.Roll.{Roll}
@@ -42,19 +42,19 @@ pub record Marked (s : List ℕ) : Type 0 where
 
 -- 10: shorter than 16 bytes.
 abbrev pub shortRule : List ℕ → Rule
-shortRule s = rule 10 (Whole (length s < 16))
+shortRule s = rule 10 (Overall (length s < 16))
 
 -- 11: mark wrong.
 abbrev pub markRule : List ℕ → Rule
-markRule s = rule 11 (Whole (Marked s → ⊥))
+markRule s = rule 11 (Overall (Marked s → ⊥))
 
 -- 12: back distance is not 16 + 12 times the count.
 abbrev pub backRule : List ℕ → Rule
-backRule s = rule 12 (Whole (backOf s ≡ 16 + 12 * countOf s → ⊥))
+backRule s = rule 12 (Overall (backOf s ≡ 16 + 12 * countOf s → ⊥))
 
 -- 13: back distance exceeds the roll's length.
 abbrev pub farRule : List ℕ → Rule
-farRule s = rule 13 (Whole (length s < backOf s))
+farRule s = rule 13 (Overall (length s < backOf s))
 
 -- The rules of a trailer, and all the file rules, in their order.
 abbrev pub trailerRules : List ℕ → List Rule
@@ -63,9 +63,17 @@ trailerRules s = markRule s ∷ backRule s ∷ farRule s ∷ []
 abbrev pub fileRules : List ℕ → List Rule
 fileRules s = shortRule s ∷ trailerRules s
 
--- The part of the bytes that holds the records: from the back distance before the end up to the trailer.
+-- Where the records begin: the back distance before the end.
+abbrev pub recordsAt : List ℕ → ℕ
+recordsAt s = length s - backOf s
+
+-- How many bytes they are.
+abbrev pub recordsLong : List ℕ → ℕ
+recordsLong s = 12 * countOf s
+
+-- The part of the bytes that holds the records.
 abbrev pub recordsOf : List ℕ → List ℕ
-recordsOf s = take (12 * countOf s) (drop (length s - backOf s) s)
+recordsOf s = take (recordsLong s) (drop (recordsAt s) s)
 
 -- One number of each record of a part: at 0 the arrival reading, at 4 the deadline reading, at 8 the operations.
 abbrev pub columnIn : List ℕ → ℕ → ℕ → List ℕ

@@ -1,5 +1,5 @@
-// The roll: its reader, and planning straight from a roll. The format is specs/Format.antt, what
-// comes back specs/Answers.antt.
+// The roll: its reader, and planning straight from a roll. A file is a roll's bytes, as they are handed
+// in. The format is specs/Format.antt, what the reader gives back specs/Answers.antt.
 use answers::Answer;
 use answers::Refusal;
 use planner::plan;
@@ -13,12 +13,12 @@ mod bytes;
 ghost use mathlib.Core.Path.{_≡_};
 ghost use Prim.Native.Nat.{_+_, _*_, _≤_, _<_};
 ghost use lib.ListN.{length};
-ghost use Rattle.answers.specs.Numbers.{numberOf, placeOf, blocksOf};
+ghost use Rattle.answers.specs.Numbers.{Proper, numberOf, placeOf, blocksOf};
 ghost use Rattle.trials.specs.Tries.{Tells, After};
 ghost use Rattle.planner.specs.Outcome.{PlanOutcome};
 ghost use Rattle.roll.specs.Format.{Marked, backOf, countOf, trailerRules, inputIn, RollOutcome};
-ghost use Rattle.roll.specs.declared.Found.the-variants.{Is};
-ghost use Rattle.roll.specs.Answers.{TrailerIs, FoundIs, NumbersIs, HandedUp, PartIs};
+ghost use Rattle.roll.specs.declared.TrailerAnswer.the-variants.{Is};
+ghost use Rattle.roll.specs.Answers.{TrailerIs, TrailerAnswerIs, NumbersIs, PartFrom, PartIs, refusalIn, numbersRefused};
 
 // The trailer's numbers: the record count, and the terms that the list comes with.
 pub struct Trailer {
@@ -31,12 +31,23 @@ impl Trailer {
     pub const MARK: [u8; 2] = *b"AQ";
     // The trailer's bytes.
     pub const BYTES: usize = 16;
+    // The bytes of a record before it.
+    pub const RECORD: usize = 12;
 }
 
-// The number of the refusal, 0 where there is none, and the trailer's numbers, 0 on a refusal.
+// The trailer, or why it is refused.
+pub enum TrailerAnswer {
+    Is(Trailer),
+    Not(Refusal),
+}
+
+// What is read of a roll, in numbers: the number of the refusal, 0 where there is none; the trailer's
+// numbers; and where the part with the records lies, and its size. On a refusal all but its number are 0.
 pub struct Numbers {
     pub refusal: u32,
     pub trailer: Trailer,
+    pub at: usize,
+    pub size: usize,
 }
 
 // What the reader hands back: the numbers, and the part of the caller's bytes that holds the records.
@@ -45,138 +56,185 @@ pub struct Reading<'a> {
     pub part: &'a [u8],
 }
 
-// The trailer, or why it is refused.
-pub enum Found {
-    Is(Trailer),
-    Not(Refusal),
-}
-
 // Whether the mark at the roll's end is wrong.
-fn unmarked(roll: &[u8]) -> bool
-    requires { ⌜ 16 ≤ length (now roll) ⌝ }
-    ensures { λ r. ⌜ Tells (Marked (now (roll .entry)) → ⊥) r ⌝ }
+fn unmarked(file: &[u8]) -> bool
+    requires { ⌜ 16 ≤ length (now file) ⌝ }
+    ensures { λ r. ⌜ Tells (Marked (now (file .entry)) → ⊥) r ⌝ }
 {
     let mark = Trailer::MARK;
-    let n = roll.len();
-    if roll[n - 2] != mark[0] {
+    let n = file.len();
+    if file[n - 2] != mark[0] {
         return true;
     }
-    roll[n - 1] != mark[1]
+    file[n - 1] != mark[1]
 }
 
 // Whether the back distance is not that of the record count.
-fn bad_back(roll: &[u8]) -> bool
-    requires { ⌜ 16 ≤ length (now roll) ⌝ }
-    ensures { λ r. ⌜ Tells (backOf (now (roll .entry)) ≡ 16 + 12 * countOf (now (roll .entry)) → ⊥) r ⌝ }
+fn bad_back(file: &[u8]) -> bool
+    requires { ⌜ 16 ≤ length (now file) ⌝ }
+    ensures { λ r. ⌜ Tells (backOf (now (file .entry)) ≡ 16 + 12 * countOf (now (file .entry)) → ⊥) r ⌝ }
 {
-    let n = roll.len();
-    let back = bytes::u32_at(roll, n - 16);
-    let count = bytes::u16_at(roll, n - 8);
-    back != 16 + 12 * count
+    let n = file.len();
+    let back = bytes::u32_at(file, n - Trailer::BYTES);
+    let count = bytes::u16_at(file, n - 8);
+    back as usize != Trailer::BYTES + Trailer::RECORD * count as usize
 }
 
 // Whether the back distance exceeds the roll's length.
-fn too_far(roll: &[u8]) -> bool
-    requires { ⌜ 16 ≤ length (now roll) ⌝ }
-    ensures { λ r. ⌜ Tells (length (now (roll .entry)) < backOf (now (roll .entry))) r ⌝ }
+fn too_far(file: &[u8]) -> bool
+    requires { ⌜ 16 ≤ length (now file) ⌝ }
+    ensures { λ r. ⌜ Tells (length (now (file .entry)) < backOf (now (file .entry))) r ⌝ }
 {
-    let n = roll.len();
-    let back = bytes::u32_at(roll, n - 16);
+    let n = file.len();
+    let back = bytes::u32_at(file, n - Trailer::BYTES);
     n < back as usize
 }
 
 // Rules 11 to 13, of a roll that is as long as a trailer.
-fn trailer_rules(so_far: Verdict, roll: &[u8]) -> Verdict
-    requires { ⌜ 16 ≤ length (now roll) ⌝ }
-    ensures { λ r. ⌜ After «so_far» (trailerRules (now (roll .entry))) r ⌝ }
+fn trailer_rules(so_far: Verdict, file: &[u8]) -> Verdict
+    requires { ⌜ 16 ≤ length (now file) ⌝ }
+    ensures { λ r. ⌜ After «so_far» (trailerRules (now (file .entry))) r ⌝ }
 {
-    let given = unmarked(roll);
+    let given = unmarked(file);
     let v = or_if(so_far, given, Refusal::BAD_MARK, 0);
-    let given = bad_back(roll);
+    let given = bad_back(file);
     let v = or_if(v, given, Refusal::BAD_BACK, 0);
-    let given = too_far(roll);
+    let given = too_far(file);
     or_if(v, given, Refusal::TOO_FAR, 0)
 }
 
 // The numbers of a trailer that is there.
-fn trailer_numbers(roll: &[u8]) -> Trailer
-    requires { ⌜ 16 ≤ length (now roll) ⌝ }
-    ensures { λ r. ⌜ TrailerIs (now (roll .entry)) r ⌝ }
+fn trailer_numbers(file: &[u8]) -> Trailer
+    requires { ⌜ 16 ≤ length (now file) ⌝ }
+    ensures { λ r. ⌜ TrailerIs (now (file .entry)) r ⌝ }
 {
-    let n = roll.len();
-    let reference = bytes::u32_at(roll, n - 12);
-    let p = bytes::u16_at(roll, n - 6);
-    let q = bytes::u16_at(roll, n - 4);
+    let n = file.len();
+    let reference = bytes::u32_at(file, n - 12);
+    let p = bytes::u16_at(file, n - 6);
+    let q = bytes::u16_at(file, n - 4);
     Trailer {
-        count: bytes::u16_at(roll, n - 8),
+        count: bytes::u16_at(file, n - 8),
         terms: Roll { reference, p, q },
     }
 }
 
 // Reads the trailer: file rules 10 to 13, in their order. A roll that is too short for a trailer is
 // not read any further.
-pub fn read_trailer(roll: &[u8]) -> Found
-    ensures { λ r. ⌜ FoundIs (now (roll .entry)) r ⌝ }
+pub fn read_trailer(file: &[u8]) -> TrailerAnswer
+    ensures { λ r. ⌜ TrailerAnswerIs (now (file .entry)) r ⌝ }
 {
-    if roll.len() < Trailer::BYTES {
-        return Found::Not(Refusal {
+    if file.len() < Trailer::BYTES {
+        return TrailerAnswer::Not(Refusal {
             number: Refusal::SHORT_ROLL,
             place: 0,
         });
     }
-    let tried = trailer_rules(Verdict::Silent, roll);
+    let tried = trailer_rules(Verdict::Silent, file);
     if let Verdict::Given(refusal) = tried {
-        return Found::Not(refusal);
+        return TrailerAnswer::Not(refusal);
     }
-    Found::Is(trailer_numbers(roll))
+    TrailerAnswer::Is(trailer_numbers(file))
 }
 
-// The refusal's number and the trailer's numbers.
-pub fn read_numbers(roll: &[u8]) -> Numbers
-    ensures { λ r. ⌜ NumbersIs (now (roll .entry)) r ⌝ }
+// The refusal in a trailer's answer; number 0 and place 0 where the trailer is there.
+fn refusal_of(answer: TrailerAnswer) -> Refusal
+    ensures { λ r. ⌜ r ≡ refusalIn answer ⌝ }
 {
-    match read_trailer(roll) {
-        Found::Is(trailer) => Numbers {
-            refusal: 0,
-            trailer,
+    match answer {
+        TrailerAnswer::Is(_) => Refusal {
+            number: 0,
+            place: 0,
         },
-        Found::Not(refusal) => Numbers {
-            refusal: refusal.number,
-            trailer: Trailer {
-                count: 0,
-                terms: Roll {
-                    reference: 0,
-                    p: 0,
-                    q: 0,
-                },
-            },
-        },
+        TrailerAnswer::Not(refusal) => refusal,
     }
 }
 
-// The part of the caller's bytes that holds the records, no copy; empty where the trailer is refused.
-pub fn records(roll: &[u8]) -> &[u8]
-    ensures { λ r. ⌜ PartIs (now (roll .entry)) (now r) ⌝ }
+// The numbers of a refused trailer.
+fn numbers_refused(answer: TrailerAnswer) -> Numbers
+    ensures { λ r. ⌜ r ≡ numbersRefused (refusalIn answer .number) ⌝ }
 {
-    let found = read_trailer(roll);
-    let Found::Is(t) = found else {
-        return &roll[0..0];
+    let refusal = refusal_of(answer);
+    let terms = Roll {
+        reference: 0,
+        p: 0,
+        q: 0,
     };
-    let n = roll.len();
-    let count = t.count as usize;
-    let back = 16 + 12 * count;
-    let from = n - back;
-    let to = n - 16;
-    &roll[from..to]
+    Numbers {
+        refusal: refusal.number,
+        trailer: Trailer { count: 0, terms },
+        at: 0,
+        size: 0,
+    }
 }
 
-// Reads a roll: the trailer's numbers and the part with the records together.
-pub fn read<'a>(roll: &'a [u8]) -> Reading<'a>
-    ensures { λ r. ⌜ NumbersIs (now (roll .entry)) (r .numbers) × PartIs (now (roll .entry)) (now (r .part)) ⌝ }
+// The numbers of a trailer that is there.
+fn numbers_of(file: &[u8], trailer: Trailer) -> Numbers
+    requires is { ⌜ TrailerAnswerIs (now file) (Is trailer) ⌝ }
+    ensures { λ r. ⌜ NumbersIs (now (file .entry)) r ⌝ }
 {
+    let size = Trailer::RECORD * trailer.count as usize;
+    let at = file.len() - (Trailer::BYTES + size);
+    Numbers {
+        refusal: 0,
+        trailer,
+        at,
+        size,
+    }
+}
+
+// The part with the records of a trailer that is there.
+fn part_of(file: &[u8], trailer: Trailer) -> &[u8]
+    requires is { ⌜ TrailerAnswerIs (now file) (Is trailer) ⌝ }
+    ensures { λ r. ⌜ PartIs (file .entry) r ⌝ }
+{
+    let to = file.len() - Trailer::BYTES;
+    let from = to - Trailer::RECORD * trailer.count as usize;
+    &file[from..to]
+}
+
+// No part of the bytes.
+fn no_part(file: &[u8]) -> &[u8]
+    ensures { λ r. ⌜ PartFrom (file .entry) 0 0 r ⌝ }
+{
+    &file[0..0]
+}
+
+// What is read of a roll, in numbers.
+pub fn read_numbers(file: &[u8]) -> Numbers
+    ensures { λ r. ⌜ NumbersIs (now (file .entry)) r ⌝ }
+{
+    let answer = read_trailer(file);
+    let TrailerAnswer::Is(trailer) = answer else {
+        return numbers_refused(answer);
+    };
+    numbers_of(file, trailer)
+}
+
+// The part of the caller's bytes that holds the records, no copy; no bytes where the trailer is refused.
+pub fn records(file: &[u8]) -> &[u8]
+    ensures { λ r. ⌜ PartIs (file .entry) r ⌝ }
+{
+    let answer = read_trailer(file);
+    let TrailerAnswer::Is(trailer) = answer else {
+        return no_part(file);
+    };
+    part_of(file, trailer)
+}
+
+// Reads a roll: the numbers, and the part with the records. A refused trailer ends the reading at once.
+pub fn read<'a>(file: &'a [u8]) -> Reading<'a>
+    ensures { λ r. ⌜ NumbersIs (now (file .entry)) (r .numbers) × PartIs (file .entry) (r .part) ⌝ }
+{
+    let answer = read_trailer(file);
+    let TrailerAnswer::Is(trailer) = answer else {
+        return Reading {
+            numbers: numbers_refused(answer),
+            part: no_part(file),
+        };
+    };
     Reading {
-        numbers: read_numbers(roll),
-        part: records(roll),
+        numbers: numbers_of(file, trailer),
+        part: part_of(file, trailer),
     }
 }
 
@@ -184,6 +242,7 @@ pub fn read<'a>(roll: &'a [u8]) -> Reading<'a>
 fn plan_records(part: &[u8], count: usize, terms: Roll, rows: &mut [u32]) -> Answer
     requires { ⌜ (12 * count ≤ length (now part)) × (count ≤ 1024) ⌝ }
     ensures { λ r. ⌜ PlanOutcome (inputIn (now (part .entry)) count terms (now (rows .entry))) (numberOf r) (placeOf r) (blocksOf r) (now (rows .exit)) ⌝ }
+    ensures { λ r. ⌜ Proper r ⌝ }
 {
     let mut arrivals = [0u32; Roll::REPORTS];
     let mut deadlines = [0u32; Roll::REPORTS];
@@ -200,38 +259,31 @@ fn plan_records(part: &[u8], count: usize, terms: Roll, rows: &mut [u32]) -> Ans
     )
 }
 
-// The refusal of a trailer that is not found.
-fn handed_up(found: Found) -> Answer
-    ensures { λ r. ⌜ HandedUp found r ⌝ }
-{
-    match found {
-        Found::Is(_) => Answer::Planned(0),
-        Found::Not(refusal) => Answer::Refused(refusal),
-    }
-}
-
-// Plans the list of a trailer that is found. Rules 1 to 4 are tried before its records are read, since
+// Plans the list of a trailer that is there. Rules 1 to 4 are tried before its records are read, since
 // there is room for 1,024 of them.
-fn plan_found(roll: &[u8], t: Trailer, rows: &mut [u32]) -> Answer
-    requires found { ⌜ FoundIs (now roll) (Is t) ⌝ }
-    ensures { λ r. ⌜ RollOutcome (now (roll .entry)) (now (rows .entry)) (numberOf r) (placeOf r) (blocksOf r) (now (rows .exit)) ⌝ }
+fn plan_list(file: &[u8], trailer: Trailer, rows: &mut [u32]) -> Answer
+    requires is { ⌜ TrailerAnswerIs (now file) (Is trailer) ⌝ }
+    ensures { λ r. ⌜ RollOutcome (now (file .entry)) (now (rows .entry)) (numberOf r) (placeOf r) (blocksOf r) (now (rows .exit)) ⌝ }
+    ensures { λ r. ⌜ Proper r ⌝ }
 {
-    let count = t.count as usize;
-    let tried = count_rules(Verdict::Silent, count, count, count, t.terms, rows.len());
+    let count = trailer.count as usize;
+    let terms = trailer.terms;
+    let tried = count_rules(Verdict::Silent, count, count, count, terms, rows.len());
     if let Verdict::Given(refusal) = tried {
         return Answer::Refused(refusal);
     }
-    plan_records(records(roll), count, t.terms, rows)
+    plan_records(part_of(file, trailer), count, terms, rows)
 }
 
 // Plans the list in a roll, by all the rules, file rules first. What comes back, and what the row
 // buffer then holds, is RollOutcome, for every input.
-pub fn plan_roll(roll: &[u8], rows: &mut [u32]) -> Answer
-    ensures { λ r. ⌜ RollOutcome (now (roll .entry)) (now (rows .entry)) (numberOf r) (placeOf r) (blocksOf r) (now (rows .exit)) ⌝ }
+pub fn plan_roll(file: &[u8], rows: &mut [u32]) -> Answer
+    ensures { λ r. ⌜ RollOutcome (now (file .entry)) (now (rows .entry)) (numberOf r) (placeOf r) (blocksOf r) (now (rows .exit)) ⌝ }
+    ensures { λ r. ⌜ Proper r ⌝ }
 {
-    let found = read_trailer(roll);
-    let Found::Is(t) = found else {
-        return handed_up(found);
+    let answer = read_trailer(file);
+    let TrailerAnswer::Is(trailer) = answer else {
+        return Answer::Refused(refusal_of(answer));
     };
-    plan_found(roll, t, rows)
+    plan_list(file, trailer, rows)
 }

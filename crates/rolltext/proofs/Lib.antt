@@ -1,4 +1,4 @@
 pub mod Saying
 pub mod OneResult
-pub mod Whole
+pub mod Buffers
 pub mod Sample

@@ -5,7 +5,7 @@ use mathlib.Core.Path.{_≡_, sym, subst}
 use mathlib.Core.List.{List, _∷_}
 use Rattle.rules.specs.Offsets.{reportsOf, fastestOf}
 use Rattle.trials.proofs.Passing.{last-part}
-use Rattle.trials.proofs.Single.{one-whole}
+use Rattle.trials.proofs.Single.{one-overall}
 use Rattle.rules.specs.Rules.{planRules}
 use Rattle.planner.proofs.OneResult.{one-outcome}
 use Rattle.rules.proofs.Table.{works}
@@ -21,7 +21,7 @@ pub one-program :
     (number ≡ number′) × (place ≡ place′) × (blocks ≡ blocks′) × (after ≡ after′)
 one-program s buffer =
     let x = inputOf s buffer in
-    one-outcome (programRules s x) (reportsOf x) (fastestOf x) buffer (one-whole (single-roll s x)) (λ p. works x (last-part (longRule s ∷ fileRules s) (planRules x) p))
+    one-outcome (programRules s x) (reportsOf x) (fastestOf x) buffer (one-overall (single-roll s x)) (λ p. works x (last-part (longRule s ∷ fileRules s) (planRules x) p))
 
 -- One length, one row buffer and one text.
 pub one-said :

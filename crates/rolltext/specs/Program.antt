@@ -3,7 +3,7 @@
 use Prim.Native.Nat.{ℕ, _<_}
 use mathlib.Core.List.{List, _∷_}
 use lib.ListN.{length}
-use Rattle.trials.specs.Rules.{Rule, rule, Whole}
+use Rattle.trials.specs.Rules.{Rule, rule, Overall}
 use Rattle.rules.specs.Offsets.{Input, reportsOf, fastestOf}
 use Rattle.planner.specs.Outcome.{Outcome}
 use Rattle.roll.specs.Format.{inputOf, rollRules}
@@ -11,7 +11,7 @@ use Rattle.text.specs.Text.{TextIs}
 
 -- The program adds 14: input longer than 65,536 bytes.
 abbrev pub longRule : List ℕ → Rule
-longRule s = rule 14 (Whole (65536 < length s))
+longRule s = rule 14 (Overall (65536 < length s))
 
 -- All the rules, 14 before all others.
 abbrev pub programRules : List ℕ → Input → List Rule

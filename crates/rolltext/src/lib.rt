@@ -12,7 +12,7 @@ ghost use Rattle.rolltext.specs.Program.{ProgramOutcome, Says};
 ghost use Rattle.text.specs.Text.{TextIs};
 
 // The program's limits: with buffers of these sizes every answer has its text whole
-// (proofs/Whole.antt).
+// (proofs/Buffers.antt).
 pub struct Program;
 
 impl Program {

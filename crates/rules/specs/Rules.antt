@@ -6,7 +6,7 @@ use mathlib.Core.List.{List, [], _∷_, _++_}
 use mathlib.Core.Logic.{_⊎_}
 use lib.ListN.{length}
 use Rattle.answers.specs.Numbers.{width}
-use Rattle.trials.specs.Rules.{Rule, rule, Whole, Least, Outside, Falls}
+use Rattle.trials.specs.Rules.{Rule, rule, Overall, Least, Outside, Falls}
 use Rattle.fraction.specs.Fraction.{Fraction}
 use Rattle.critical.specs.Reports.{Reports, FirstWithout}
 use Rattle.rules.specs.Offsets.{Input, reportsOf, fastestOf}
@@ -15,19 +15,19 @@ use Rattle.rules.specs.declared.Roll.{Roll}
 -- ---- rules of the whole list: of how long the lists and the row buffer are, and of the terms
 -- 1: the three lists differ in length.
 abbrev pub lengthsRule : ℕ → ℕ → ℕ → Rule
-lengthsRule arrivals deadlines operations = rule 1 (Whole ((arrivals ≡ deadlines → ⊥) ⊎ (arrivals ≡ operations → ⊥)))
+lengthsRule arrivals deadlines operations = rule 1 (Overall ((arrivals ≡ deadlines → ⊥) ⊎ (arrivals ≡ operations → ⊥)))
 
 -- 2: more than 1,024 reports.
 abbrev pub manyRule : ℕ → Rule
-manyRule reports = rule 2 (Whole (1024 < reports))
+manyRule reports = rule 2 (Overall (1024 < reports))
 
 -- 3: the row buffer is shorter than a row's width times the reports.
 abbrev pub shortRule : ℕ → ℕ → Rule
-shortRule reports room = rule 3 (Whole (room < width * reports))
+shortRule reports room = rule 3 (Overall (room < width * reports))
 
 -- 4: P or Q outside 1 to 65,535.
 abbrev pub paceRule : Roll → Rule
-paceRule terms = rule 4 (Whole (Outside 1 65535 (terms .p) ⊎ Outside 1 65535 (terms .q)))
+paceRule terms = rule 4 (Overall (Outside 1 65535 (terms .p) ⊎ Outside 1 65535 (terms .q)))
 
 -- In their order.
 abbrev pub countRules : ℕ → ℕ → ℕ → Roll → ℕ → List Rule
@@ -73,8 +73,8 @@ abbrev pub reportRules : Reports → Fraction → List Rule
 reportRules ℓ fastest = formRules ℓ ++ (planRule ℓ fastest ∷ [])
 
 -- ---- all of them, of an input
-abbrev pub wholeRules : Input → List Rule
-wholeRules x = countRules (length (x .arrivals)) (length (x .deadlines)) (length (x .operations)) (x .terms) (length (x .buffer))
+abbrev pub overallRules : Input → List Rule
+overallRules x = countRules (length (x .arrivals)) (length (x .deadlines)) (length (x .operations)) (x .terms) (length (x .buffer))
 
 abbrev pub planRules : Input → List Rule
-planRules x = wholeRules x ++ reportRules (reportsOf x) (fastestOf x)
+planRules x = overallRules x ++ reportRules (reportsOf x) (fastestOf x)

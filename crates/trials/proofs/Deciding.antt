@@ -10,7 +10,7 @@ use native.Mathlib.Decide.{decLt, ℕ-discrete}
 use native.Mathlib.Nat.{eq-or-lt-of-le, le-of-suc-le-suc, not-suc-le-zero, le-refl}
 use lib.Dec.{T, ltb}
 use borrow.Author.Tests.{ltb-true}
-use Rattle.trials.specs.Rules.{Rule, rule, Whole, Least, Falls, Silent, Refused, Accepted}
+use Rattle.trials.specs.Rules.{Rule, rule, Overall, Least, Falls, Silent, Refused, Accepted}
 use Rattle.trials.proofs.Passing.{Passed}
 
 -- ---- statements that can be decided
@@ -59,16 +59,16 @@ unfoldable pub decides-none : Decides []
 unfolding Decided
 decides-none = record { decides = tt }
 
-unfoldable pub decides-whole : {number : ℕ} {P : Type 0} {qs : List Rule} → Decidable P → ltb 0 number ≡ true → Decides qs → Decides (rule number (Whole P) ∷ qs)
+unfoldable pub decides-overall : {number : ℕ} {P : Type 0} {qs : List Rule} → Decidable P → ltb 0 number ≡ true → Decides qs → Decides (rule number (Overall P) ∷ qs)
 unfolding Decided
-decides-whole {number} d some rest = record { decides = (⊎-elim (λ h. inl (0, (h, refl))) (λ h. inr (λ p g. h (g .0))) (d .decided), ltb-true 0 number some, rest .decides) }
+decides-overall {number} d some rest = record { decides = (⊎-elim (λ h. inl (0, (h, refl))) (λ h. inr (λ p g. h (g .0))) (d .decided), ltb-true 0 number some, rest .decides) }
 
 unfoldable pub decides-least : {number n : ℕ} {F : ℕ → Type 0} {qs : List Rule} → ((i : ℕ) → Decidable (F i)) → ltb 0 number ≡ true → Decides qs → Decides (rule number (Least n F) ∷ qs)
 unfolding Decided
 decides-least {number} {n} {F} d some rest = record { decides = (least-or-none n F d, ltb-true 0 number some, rest .decides) }
 
 -- what search is handed for a list of rules
-pub ruleset deciding = (decides-whole, decides-least, decides-none, dec-below, dec-equal, dec-not, dec-or, dec-falls)
+pub ruleset deciding = (decides-overall, decides-least, decides-none, dec-below, dec-equal, dec-not, dec-or, dec-falls)
 
 -- ---- a refusal, or none
 pub record Gives (rules : List Rule) : Type 0 where

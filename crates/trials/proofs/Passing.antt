@@ -5,7 +5,7 @@ use mathlib.Core.Path.{refl}
 use mathlib.Core.List.{List, [], _∷_, _++_}
 use native.Mathlib.Omega.{arith}
 use native.Mathlib.Nat.{le-refl}
-use Rattle.trials.specs.Rules.{Rule, rule, Whole, Least, Silent, Accepted}
+use Rattle.trials.specs.Rules.{Rule, rule, Overall, Least, Silent, Accepted}
 
 pub record Passed (rules : List Rule) : Type 0 where
   pub accepted : Accepted rules
@@ -70,5 +70,5 @@ none-at-fault n F h i l f = go i i (le-refl i) l f
 pub unfaulted : {number n : ℕ} {Fault : ℕ → Type 0} → Quiet (rule number (Least n Fault)) → (i : ℕ) → i < n → Fault i → ⊥
 unfaulted {number} {n} {Fault} quiet = none-at-fault n Fault (quiet .silent)
 
-pub untrue : {number : ℕ} {P : Type 0} → Quiet (rule number (Whole P)) → P → ⊥
+pub untrue : {number : ℕ} {P : Type 0} → Quiet (rule number (Overall P)) → P → ⊥
 untrue {number} {P} quiet p = quiet .silent 0 (p, refl)

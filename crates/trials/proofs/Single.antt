@@ -7,7 +7,7 @@ use mathlib.Core.List.{List, [], _∷_}
 use mathlib.Core.Logic.{inl, inr}
 use native.Mathlib.Omega.{arith}
 use native.Mathlib.Decide.{decLt}
-use Rattle.trials.specs.Rules.{Rule, rule, Whole, Least, Refused, Accepted, Refuses}
+use Rattle.trials.specs.Rules.{Rule, rule, Overall, Least, Refused, Accepted, Refuses}
 use Rattle.trials.specs.Tries.{Tells, FirstOr, OrIf, AfterIs, After}
 use Rattle.answers.specs.declared.Refusal.{Refusal}
 use Rattle.trials.specs.declared.Verdict.{Verdict}
@@ -37,9 +37,9 @@ not-refused (r ∷ rs) a k p (inr b) = not-refused rs (a .1) k p (b .1)
 pub record Soles (rules : List Rule) : Type 0 where
   pub single : Single rules
 
-pub one-whole : {number : ℕ} {P : Type 0} {qs : List Rule} → Soles qs → Soles (rule number (Whole P) ∷ qs)
+pub one-overall : {number : ℕ} {P : Type 0} {qs : List Rule} → Soles qs → Soles (rule number (Overall P) ∷ qs)
 unfolding Single
-one-whole s = record { single = (λ p q a b. a .1 ∙ sym (b .1), s .single) }
+one-overall s = record { single = (λ p q a b. a .1 ∙ sym (b .1), s .single) }
 
 least-once : (n : ℕ) (F : ℕ → Type 0) (p q : ℕ) → Least n F p → Least n F q → p ≡ q
 least-once n F p q a b =
@@ -56,7 +56,7 @@ pub none-left : Soles []
 unfolding Single
 none-left = record { single = tt }
 
-pub ruleset singly = (one-whole, one-least, none-left)
+pub ruleset singly = (one-overall, one-least, none-left)
 
 -- ---- one result for each function
 -- The promise of `first_outside`, `first_above` and `first_fall` allows one place.

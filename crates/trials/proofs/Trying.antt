@@ -9,7 +9,7 @@ use native.Mathlib.Omega.{arith}
 use lib.Dec.{ltb, eqb}
 use borrow.Author.Tests.{ltb-true, ltb-false, eqb-true, eqb-false, not-true, not-false}
 use Rattle.answers.specs.declared.Refusal.{Refusal}
-use Rattle.trials.specs.Rules.{Rule, rule, Whole, Least, Silent as SilentRule, Refused, Accepted, Refuses}
+use Rattle.trials.specs.Rules.{Rule, rule, Overall, Least, Silent as SilentRule, Refused, Accepted, Refuses}
 use Rattle.trials.specs.Tries.{Tells, FirstOr, orIf, OrIf, AfterIs, After}
 use Rattle.trials.specs.declared.Verdict.{Verdict}
 use Rattle.trials.specs.declared.Verdict.the-variants.{Silent, Given}
@@ -55,10 +55,10 @@ one-is q Silent r true place e on off some = subst (λ (x : Verdict). AfterIs Si
 one-is q Silent r false place e on off some = subst (λ (x : Verdict). AfterIs Silent (q ∷ []) x) (sym e) (off refl, tt)
 
 -- a rule of the whole list, by a test
-pub whole-cons : {number : ℕ} {P : Type 0} {qs : List Rule} {v w r : Verdict} {b : Bool} → OrIf v b number 0 w → Tells P b → ltb 0 number ≡ true → After w qs r → After v (rule number (Whole P) ∷ qs) r
-whole-cons {number} {P} {qs} {v} {w} {r} {b} o t some rest =
-    after-append (rule number (Whole P) ∷ []) qs
-    (record { is = one-is (rule number (Whole P)) v w b 0 (o .is) (λ e. (t .yes e, refl)) (λ e place g. t .no e (g .0)) (ltb-true 0 number some) }) rest
+pub overall-cons : {number : ℕ} {P : Type 0} {qs : List Rule} {v w r : Verdict} {b : Bool} → OrIf v b number 0 w → Tells P b → ltb 0 number ≡ true → After w qs r → After v (rule number (Overall P) ∷ qs) r
+overall-cons {number} {P} {qs} {v} {w} {r} {b} o t some rest =
+    after-append (rule number (Overall P) ∷ []) qs
+    (record { is = one-is (rule number (Overall P)) v w b 0 (o .is) (λ e. (t .yes e, refl)) (λ e place g. t .no e (g .0)) (ltb-true 0 number some) }) rest
 
 -- a rule of a report, by the search for its fault
 pub least-cons : {number n at : ℕ} {Fault : ℕ → Type 0} {qs : List Rule} {v w r : Verdict} → OrIf v (ltb at n) number at w → FirstOr n Fault at → ltb 0 number ≡ true → After w qs r → After v (rule number (Least n Fault) ∷ qs) r
@@ -108,7 +108,7 @@ pub tells-second : {P Q : Type 0} {b : Bool} → (P → ⊥) → Tells Q b → T
 tells-second n t = record { yes = λ e. inr (t .yes e); no = λ e o. ⊎-elim n (t .no e) o }
 
 -- what search is handed for rules tried in their order
-pub ruleset trying = (whole-cons, least-cons, first-long, after-none, tells-below, tells-equal, tells-different)
+pub ruleset trying = (overall-cons, least-cons, first-long, after-none, tells-below, tells-equal, tells-different)
 
 -- ---- the verdict, taken apart
 silent-is : (rules : List Rule) (v : Verdict) → v ≡ Silent → AfterIs Silent rules v → Accepted rules

@@ -15,8 +15,8 @@ abbrev pub rule : ℕ → (ℕ → Type 0) → Rule
 rule number given = record { number = number; given = given }
 
 -- Given of the whole list: the place is 0.
-abbrev pub Whole : Type 0 → ℕ → Type 0
-Whole P place = P × (place ≡ 0)
+abbrev pub Overall : Type 0 → ℕ → Type 0
+Overall P place = P × (place ≡ 0)
 
 -- Given of a report: the place is the least report at fault.
 pub record Least (n : ℕ) (Fault : ℕ → Type 0) (place : ℕ) : Type 0 where

@@ -1,10 +1,11 @@
 -- `planner::plan` meets its contract: rules 1 to 4, and then the rules of the reports.
 -- Assumes nothing.
 use borrow.Author.Needs.{needs}
+use Rattle.trials.specs.Rules.{Refuses}
 use Rattle.trials.proofs.Passing.{Passed}
 use Rattle.trials.proofs.Trying.{passed, refuses}
 use Rattle.rules.specs.Offsets.{Input, reportsOf, fastestOf}
-use Rattle.rules.specs.Rules.{wholeRules, reportRules}
+use Rattle.rules.specs.Rules.{overallRules, reportRules}
 use Rattle.planner.proofs.Outcomes.{hands-up, goes-on}
 use Rattle.rules.proofs.Leaving.{sized-lists, good-terms}
 use Rattle.planner.proofs.plan.Statement.{statement}
@@ -20,10 +21,11 @@ returns : tie.Need-returns
 returns c =
     let t = c .before .before .before in
     let x = input t in
-    hands-up (reportsOf x) (fastestOf x) (x .buffer) (wholeRules x) (reportRules (reportsOf x) (fastestOf x)) (refuses {rules = wholeRules x} (t .count-rules .ensures) (c .before .tried .given .1))
+    let r : Refuses (overallRules x) (c .before .tried .given .0 .0) = refuses (t .count-rules .ensures) (c .before .tried .given .1) in
+    (hands-up (reportsOf x) (fastestOf x) (x .buffer) (overallRules x) (reportRules (reportsOf x) (fastestOf x)) r, r .numbered)
 
 -- where they are silent
-quiet : (c : tie.After-enum-told) → Passed (wholeRules (input (c .before .before)))
+quiet : (c : tie.After-enum-told) → Passed (overallRules (input (c .before .before)))
 quiet c = passed (c .before .before .count-rules .ensures) (c .enum-told .given .1)
 
 settle-readings-requires : tie.Need-settle-readings-requires
@@ -37,7 +39,7 @@ returns-2 c =
     let s = c .before .before in
     let t = s .before .before in
     let x = input (t .before .before) in
-    goes-on (reportsOf x) (fastestOf x) (x .buffer) (wholeRules x) (reportRules (reportsOf x) (fastestOf x)) _ _ _ _ (quiet t) (s .settle-readings .ensures)
+    (goes-on (reportsOf x) (fastestOf x) (x .buffer) (overallRules x) (reportRules (reportsOf x) (fastestOf x)) _ _ _ _ (quiet t) (s .settle-readings .ensures .0), s .settle-readings .ensures .1)
 
 pub plan-spec : {M : Type 1} → statement M
 plan-spec =

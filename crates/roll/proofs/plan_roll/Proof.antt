@@ -15,13 +15,13 @@ returns : tie.Need-returns
 returns c =
     let r = c .before .before .before in
     let a = entry r .args in
-    refused-roll (a .roll .now) (a .rows .now) (r .read-trailer .result) (c .handed-up .result) (r .read-trailer .ensures) (c .before .before .match .keys2) (c .handed-up .ensures)
+    refused-roll (a .file .now) (a .rows .now) (r .read-trailer .result) (c .handed-up .result) (r .read-trailer .ensures) (c .before .before .match .keys2) (c .handed-up .ensures)
 
 plan-found-requires : tie.Need-plan-found-requires
 plan-found-requires c κs =
     let f = c .before .before in
     let r = f .before .before in
-    subst (FoundIs (entry r .args .roll .now)) (f .found .given .1) (r .read-trailer .ensures)
+    subst (FoundIs (entry r .args .file .now)) (f .found .given .1) (r .read-trailer .ensures)
 
 pub plan-roll-spec : {M : Type 1} → statement M
 plan-roll-spec =

@@ -10,7 +10,7 @@ use Rattle.roll.proofs.read_trailer.Tie as tie
 
 -- where the roll is as long as a trailer
 abbrev bytes : tie.Else1 → List ℕ
-bytes c = c .before .before .args .roll .now
+bytes c = c .before .before .args .file .now
 
 returns-2 : tie.Need-returns-2
 returns-2 c =
@@ -26,7 +26,7 @@ pub read-trailer-spec : {M : Type 1} → statement M
 read-trailer-spec =
     tie.close
     (tie.spec
-    (λ c. too-short (c .before .before .args .roll .now) (c .if1 .taken))
+    (λ c. too-short (c .before .before .args .file .now) (c .if1 .taken))
     (λ c κs. search needs)
     (λ c. search needs)
     returns-2

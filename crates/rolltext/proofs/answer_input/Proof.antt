@@ -13,7 +13,7 @@ returns-2 c =
     let p = c .before .before in
     let e = p .before .before in
     let a = e .before .before .before .args in
-    short-enough (a .input .now) (a .rows .now) _ _ _ _ (e .if1 .left) (p .plan-roll .ensures)
+    short-enough (a .input .now) (a .rows .now) _ _ _ _ (e .if1 .left) (p .plan-roll .ensures .0)
 
 pub answer-input-spec : {M : Type 1} → statement M
 answer-input-spec = tie.close (tie.spec returns (λ c κs. search needs) (λ c. search needs) returns-2)

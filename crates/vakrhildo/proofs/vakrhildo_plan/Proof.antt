@@ -10,7 +10,7 @@ returns : tie.Need-returns
 returns c =
     let p = c .before .before .before in
     let a = p .before .before .before .before .before .before .args in
-    to-reply (λ x y z. PlanOutcome (record { arrivals = a .arrivals .now; deadlines = a .deadlines .now; operations = a .operations .now; terms = record { reference = a .reference; p = a .p; q = a .q }; buffer = a .rows .now }) x y z (p .plan .last .1 .1 .1 .1 .0)) (c .in-numbers .ensures) (p .plan .ensures)
+    to-reply (λ x y z. PlanOutcome (record { arrivals = a .arrivals .now; deadlines = a .deadlines .now; operations = a .operations .now; terms = record { reference = a .reference; p = a .p; q = a .q }; buffer = a .rows .now }) x y z (p .plan .last .1 .1 .1 .1 .0)) (c .in-numbers .ensures) (p .plan .ensures .0)
 
 pub vakrhildo-plan-spec : {M : Type 1} → statement M
 vakrhildo-plan-spec = tie.close (tie.spec (λ c κs. search needs) (λ c κs. search needs) (λ c. search needs) returns)

@@ -9,8 +9,8 @@ use native.Mathlib.Omega.{arith}
 use lib.ListN.{length}
 use Rattle.fraction.specs.Fraction.{over}
 use Rattle.critical.specs.Reports.{Reports, listOf}
-use Rattle.critical.proofs.Room.{HoldsTo}
-use Rattle.planner.proofs.Through.{through, through-zero, through-step, stops-at, holds-on, passes, through-bound}
+use Rattle.critical.proofs.Room.{TimelyTo}
+use Rattle.planner.proofs.Through.{through, through-zero, through-step, stops-at, timely-on, passes, through-bound}
 use Rattle.planner.proofs.pass.first_without.Statement.{statement}
 use Rattle.planner.proofs.pass.first_without.Tie as tie
 
@@ -19,7 +19,7 @@ Inv-loop arrivals deadlines operations terms i₀ done₀ i done =
     (i ≤ length arrivals)
     × (done ≡ through (listOf arrivals deadlines operations) (terms .p) (terms .q) i)
     × (done ≤ 140735340806145 + i * 4294836225)
-    × HoldsTo (listOf arrivals deadlines operations) (over (terms .p) (terms .q)) i
+    × TimelyTo (listOf arrivals deadlines operations) (over (terms .p) (terms .q)) i
 
 abbrev μ-loop : tie.MeasureT-loop
 μ-loop arrivals deadlines operations terms i₀ done₀ i done = length arrivals - i
@@ -116,7 +116,7 @@ loop-again c =
       search needs,
       passed t,
       omega (arith, finished t, through-bound (list t .arrival (l .i)) (list t .operations (l .i)) p q (l .done) (l .i) (s .pre .0 .arrive (l .i) (search needs)) (s .pre .1 .q-most) (s .pre .0 .work (l .i) (search needs)) (s .pre .1 .p-most) (l .inv .2)),
-      holds-on (list t) p q (s .pre .1 .p-some) (s .pre .1 .q-some) (l .i) (l .inv .3) (omega (arith, passed t, due t, c .if1 .left)),
+      timely-on (list t) p q (s .pre .1 .p-some) (s .pre .1 .q-some) (l .i) (l .inv .3) (omega (arith, passed t, due t, c .if1 .left)),
     )
 
 returns-2 : tie.Need-returns-2 Inv-loop μ-loop
@@ -133,7 +133,7 @@ returns-2 c =
     record {
       within = search needs;
       stops = λ h. absurd (omega (arith, h, e));
-      passes = λ _. passes ℓ p q (s .pre .1 .p-some) (s .pre .1 .q-some) (subst (HoldsTo ℓ (over p q)) e (l .loop .inv .3));
+      passes = λ _. passes ℓ p q (s .pre .1 .p-some) (s .pre .1 .q-some) (subst (TimelyTo ℓ (over p q)) e (l .loop .inv .3));
     }
 
 pub first-without-spec : {M : Type 1} → statement M

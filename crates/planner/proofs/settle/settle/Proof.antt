@@ -2,7 +2,7 @@
 -- Assumes nothing.
 use borrow.Author.Needs.{needs}
 use mathlib.Core.List.{List, [], _∷_}
-use Rattle.trials.specs.Rules.{Rule}
+use Rattle.trials.specs.Rules.{Rule, Refuses}
 use Rattle.trials.proofs.Trying.{passed, refuses}
 use Rattle.fraction.specs.Fraction.{Fraction}
 use Rattle.critical.specs.Reports.{Reports, listOf}
@@ -29,7 +29,8 @@ last c = planRule (list c) (pace c) ∷ []
 returns : tie.Need-returns
 returns c =
     let t = c .before .before .before in
-    hands-up (list t) (pace t) (entry t .args .rows .now) (formRules (list t)) (last t) (refuses (t .form-rules .ensures) (c .before .tried .given .1))
+    let r : Refuses (formRules (list t)) (c .before .tried .given .0 .0) = refuses (t .form-rules .ensures) (c .before .tried .given .1) in
+    (hands-up (list t) (pace t) (entry t .args .rows .now) (formRules (list t)) (last t) r, r .numbered)
 
 plan-fair-requires : tie.Need-plan-fair-requires
 plan-fair-requires c κs =
@@ -43,7 +44,7 @@ returns-2 c =
     let p = c .before .before in
     let told = p .before .before in
     let t = told .before .before in
-    goes-on (list t) (pace t) (entry t .args .rows .now) (formRules (list t)) (last t) _ _ _ _ (passed (t .form-rules .ensures) (told .enum-told .given .1)) (p .plan-fair .ensures)
+    (goes-on (list t) (pace t) (entry t .args .rows .now) (formRules (list t)) (last t) _ _ _ _ (passed (t .form-rules .ensures) (told .enum-told .given .1)) (p .plan-fair .ensures .0), p .plan-fair .ensures .1)
 
 pub settle-spec : {M : Type 1} → statement M
 settle-spec =

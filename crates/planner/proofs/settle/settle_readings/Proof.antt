@@ -57,7 +57,7 @@ returns c =
     let s = c .before .before in
     let o = s .before .before .before .before .before in
     let a = entry o .args in
-    outcome-offsets (a .terms .reference) (a .arrivals .now) (a .deadlines .now) (a .operations .now) _ _ (paceOf (a .terms)) (a .rows .now) _ _ _ _ (from-is o) (due-is o) (s .settle .ensures)
+    (outcome-offsets (a .terms .reference) (a .arrivals .now) (a .deadlines .now) (a .operations .now) _ _ (paceOf (a .terms)) (a .rows .now) _ _ _ _ (from-is o) (due-is o) (s .settle .ensures .0), s .settle .ensures .1)
 
 pub settle-readings-spec : {M : Type 1} → statement M
 settle-readings-spec =

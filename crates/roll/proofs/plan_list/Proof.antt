@@ -3,7 +3,7 @@
 use borrow.Author.Needs.{needs}
 use Rattle.trials.proofs.Passing.{Passed}
 use Rattle.trials.proofs.Trying.{passed, refuses}
-use Rattle.rules.specs.Rules.{wholeRules}
+use Rattle.rules.specs.Rules.{overallRules}
 use Rattle.roll.specs.Format.{inputOf}
 use Rattle.roll.proofs.FileRules.{FileHas, found-is}
 use Rattle.roll.proofs.Rolls.{counted, refused-list, few-records, part-long, planned-roll}
@@ -14,28 +14,28 @@ use Rattle.roll.proofs.plan_found.Tie as tie
 abbrev entry : tie.After-count-rules → tie.Start
 entry c = c .before .before .before .before
 
-has : (c : tie.After-count-rules) → FileHas (entry c .args .roll .now) (entry c .args .t)
+has : (c : tie.After-count-rules) → FileHas (entry c .args .file .now) (entry c .args .t)
 has c = found-is (entry c .pre)
 
 -- where they are silent
-quiet : (c : tie.After-enum-told) → Passed (wholeRules (inputOf (entry (c .before .before) .args .roll .now) (entry (c .before .before) .args .rows .now)))
+quiet : (c : tie.After-enum-told) → Passed (overallRules (inputOf (entry (c .before .before) .args .file .now) (entry (c .before .before) .args .rows .now)))
 quiet c =
     let t = c .before .before in
     let a = entry t .args in
-    passed (counted (a .roll .now) (a .rows .now) (a .t) (has t) (t .count-rules .ensures)) (c .enum-told .given .1)
+    passed (counted (a .file .now) (a .rows .now) (a .t) (has t) (t .count-rules .ensures)) (c .enum-told .given .1)
 
 returns : tie.Need-returns
 returns c =
     let t = c .before .before .before in
     let a = entry t .args in
-    refused-list (a .roll .now) (a .rows .now) (a .t) (has t) (refuses (counted (a .roll .now) (a .rows .now) (a .t) (has t) (t .count-rules .ensures)) (c .before .tried .given .1))
+    refused-list (a .file .now) (a .rows .now) (a .t) (has t) (refuses (counted (a .file .now) (a .rows .now) (a .t) (has t) (t .count-rules .ensures)) (c .before .tried .given .1))
 
 plan-records-requires : tie.Need-plan-records-requires
 plan-records-requires c κs =
     let told = c .before .before in
     let t = told .before .before in
     let a = entry t .args in
-    (part-long (a .roll .now) (a .rows .now) (a .t) (has t) (c .before .records .ensures), few-records (a .roll .now) (a .rows .now) (a .t) (has t) (quiet told))
+    (part-long (a .file .now) (a .rows .now) (a .t) (has t) (c .before .records .ensures), few-records (a .file .now) (a .rows .now) (a .t) (has t) (quiet told))
 
 returns-2 : tie.Need-returns-2
 returns-2 c =
@@ -43,7 +43,7 @@ returns-2 c =
     let r = p .before .before in
     let t = r .before .before .before in
     let a = entry t .args in
-    planned-roll (a .roll .now) (a .rows .now) (a .t) (has t) _ _ _ _ _ (r .records .ensures) (p .plan-records .ensures)
+    planned-roll (a .file .now) (a .rows .now) (a .t) (has t) _ _ _ _ _ (r .records .ensures) (p .plan-records .ensures)
 
 pub plan-found-spec : {M : Type 1} → statement M
 plan-found-spec =

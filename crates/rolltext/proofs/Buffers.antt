@@ -39,10 +39,10 @@ module _ (s buffer : List ℕ) where
       record { few = omega (arith, o .1); rows-long = omega (arith, o .1); out-long = omega (arith, o .1, text) }
 
   -- The text is there whole: its length comes back, and nothing else of the buffer is written.
-  pub said-whole :
+  pub said-in-full :
       (out : List ℕ) (r : ℕ) (after text : List ℕ) (v : Says s buffer out r after text) →
       width * 1024 ≤ length buffer → textRoom 1024 ≤ length out → Puts out 0 (planText (v .number) (v .place) (v .blocks) after) r text
-  said-whole out r after text v rows room = v .said .put (outcome-room (v .number) (v .place) (v .blocks) after out (v .outcome) rows room)
+  said-in-full out r after text v rows room = v .said .put (outcome-room (v .number) (v .place) (v .blocks) after out (v .outcome) rows room)
 
   -- ---- rules that no roll breaks
   -- Rule 1 is never given: the columns of a roll are equally long.
