@@ -63,10 +63,15 @@ unfolding TrailerAnswerIs
 file-has f = record { passed = record { accepted = f .0 }; trailer = f .1 }
 
 -- one that is not, told by the tag that a match looks at
-pub refuses-file : {s : List ℕ} {answer : TrailerAnswer} → TrailerAnswerIs s answer → tagOf the-type answer ≡ 1 → Refuses (fileRules s) (refusalIn answer)
+pub refuses-file : {s : List ℕ} (answer : TrailerAnswer) → TrailerAnswerIs s answer → tagOf the-type answer ≡ 1 → Refuses (fileRules s) (refusalIn answer)
 unfolding TrailerAnswerIs
-refuses-file {answer = Is t} is e = absurd (omega (arith, e))
-refuses-file {answer = Not a} is e = is
+refuses-file (Is t) is e = absurd (omega (arith, e))
+refuses-file (Not a) is e = is
+
+-- where the trailer is there, there is no refusal
+pub no-refusal : (answer : TrailerAnswer) → tagOf the-type answer ≡ 0 → record { number = 0; place = 0 } ≡ refusalIn answer
+no-refusal (Is t) e = refl
+no-refusal (Not a) e = absurd (omega (arith, e))
 
 -- ---- the part with the records
 -- it is inside the roll

@@ -76,7 +76,7 @@ file-decided s = passed-or-given (decides-file s)
 
 -- what a promise by the file rules says of two results holds, whichever way they go
 by-file : (s : List ℕ) (F : Type 0) → (Accepted (fileRules s) → F) → ((number place : ℕ) → Refused (fileRules s) number place → F) → F
-by-file s F yes no = ⊎-elim (λ p. yes (p .accepted)) (λ g. no (g .number) (g .place) (g .refused)) (file-decided s)
+by-file s F f g = ⊎-elim (λ p. f (p .accepted)) (λ h. g (h .number) (h .place) (h .refused)) (file-decided s)
 
 -- A slice is its bytes and where they lie.
 abbrev pub SameSlice : RefT (List ℕ) → RefT (List ℕ) → Type 0

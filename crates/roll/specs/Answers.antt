@@ -52,7 +52,7 @@ pub record NumbersIs (s : List ℕ) (n : Numbers) : Type 0 where
 -- A part of the caller's bytes, no copy: so many of them, lying where they lie there.
 pub record PartFrom (s : RefT (List ℕ)) (at size : ℕ) (part : RefT (List ℕ)) : Type 0 where
   pub bytes : part .now ≡ take size (drop at (s .now))
-  pub lies : part .ptr ≡ (s .ptr .0, s .ptr .1 + at)
+  pub lies : part .ptr ≡ (s .ptr .0, at + s .ptr .1)
 
 -- The part with the records; no bytes on a refusal.
 pub record PartIs (s part : RefT (List ℕ)) : Type 0 where

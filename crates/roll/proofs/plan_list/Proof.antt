@@ -1,41 +1,43 @@
--- `roll::plan_found` meets its contract: rules 1 to 4 of the trailer's numbers, and then the list's plan.
+-- `roll::plan_list` meets its contract: rules 1 to 4 of the trailer's numbers, and then the list's plan.
 -- Assumes nothing.
 use borrow.Author.Needs.{needs}
+use Rattle.trials.specs.Rules.{Refuses}
 use Rattle.trials.proofs.Passing.{Passed}
 use Rattle.trials.proofs.Trying.{passed, refuses}
 use Rattle.rules.specs.Rules.{overallRules}
 use Rattle.roll.specs.Format.{inputOf}
-use Rattle.roll.proofs.FileRules.{FileHas, found-is}
+use Rattle.roll.proofs.FileRules.{FileHas, file-has}
 use Rattle.roll.proofs.Rolls.{counted, refused-list, few-records, part-long, planned-roll}
-use Rattle.roll.proofs.plan_found.Statement.{statement}
-use Rattle.roll.proofs.plan_found.Tie as tie
+use Rattle.roll.proofs.plan_list.Statement.{statement}
+use Rattle.roll.proofs.plan_list.Tie as tie
 
 -- ---- where the rules of the whole list have been tried
 abbrev entry : tie.After-count-rules → tie.Start
-entry c = c .before .before .before .before
+entry c = c .before .before .before .before .before
 
-has : (c : tie.After-count-rules) → FileHas (entry c .args .file .now) (entry c .args .t)
-has c = found-is (entry c .pre)
+has : (c : tie.After-count-rules) → FileHas (entry c .args .file .now) (entry c .args .trailer)
+has c = file-has (entry c .pre)
 
 -- where they are silent
 quiet : (c : tie.After-enum-told) → Passed (overallRules (inputOf (entry (c .before .before) .args .file .now) (entry (c .before .before) .args .rows .now)))
 quiet c =
     let t = c .before .before in
     let a = entry t .args in
-    passed (counted (a .file .now) (a .rows .now) (a .t) (has t) (t .count-rules .ensures)) (c .enum-told .given .1)
+    passed (counted (a .file .now) (a .rows .now) (a .trailer) (has t) (t .count-rules .ensures)) (c .enum-told .given .1)
 
 returns : tie.Need-returns
 returns c =
     let t = c .before .before .before in
     let a = entry t .args in
-    refused-list (a .file .now) (a .rows .now) (a .t) (has t) (refuses (counted (a .file .now) (a .rows .now) (a .t) (has t) (t .count-rules .ensures)) (c .before .tried .given .1))
+    let r : Refuses (overallRules (inputOf (a .file .now) (a .rows .now))) (c .before .tried .given .0 .0) = refuses (counted (a .file .now) (a .rows .now) (a .trailer) (has t) (t .count-rules .ensures)) (c .before .tried .given .1) in
+    (refused-list (a .file .now) (a .rows .now) (a .trailer) (has t) r, r .numbered)
 
 plan-records-requires : tie.Need-plan-records-requires
 plan-records-requires c κs =
     let told = c .before .before in
     let t = told .before .before in
     let a = entry t .args in
-    (part-long (a .file .now) (a .rows .now) (a .t) (has t) (c .before .records .ensures), few-records (a .file .now) (a .rows .now) (a .t) (has t) (quiet told))
+    (part-long (a .file .now) (a .rows .now) (a .trailer) (has t) _ (c .before .part-of .ensures .accepted (has t .passed .accepted) .bytes), few-records (a .file .now) (a .rows .now) (a .trailer) (has t) (quiet told))
 
 returns-2 : tie.Need-returns-2
 returns-2 c =
@@ -43,10 +45,10 @@ returns-2 c =
     let r = p .before .before in
     let t = r .before .before .before in
     let a = entry t .args in
-    planned-roll (a .file .now) (a .rows .now) (a .t) (has t) _ _ _ _ _ (r .records .ensures) (p .plan-records .ensures)
+    (planned-roll (a .file .now) (a .rows .now) (a .trailer) (has t) _ _ _ _ _ (r .part-of .ensures .accepted (has t .passed .accepted) .bytes) (p .plan-records .ensures .0), p .plan-records .ensures .1)
 
-pub plan-found-spec : {M : Type 1} → statement M
-plan-found-spec =
+pub plan-list-spec : {M : Type 1} → statement M
+plan-list-spec =
     tie.close
     (tie.spec
     (λ c. search needs)

@@ -1,8 +1,11 @@
 -- `roll::plan_roll` meets its contract: the trailer is refused, or its list is planned.
 -- Assumes nothing.
 use borrow.Author.Needs.{needs}
-use mathlib.Core.Path.{subst}
-use Rattle.roll.specs.Answers.{FoundIs}
+use mathlib.Core.Path.{sym, subst}
+use Rattle.trials.specs.Rules.{Refuses}
+use Rattle.roll.specs.Format.{fileRules}
+use Rattle.roll.specs.Answers.{TrailerAnswerIs}
+use Rattle.roll.proofs.FileRules.{refuses-file}
 use Rattle.roll.proofs.Rolls.{refused-roll}
 use Rattle.roll.proofs.plan_roll.Statement.{statement}
 use Rattle.roll.proofs.plan_roll.Tie as tie
@@ -13,15 +16,12 @@ entry c = c .before .before .before
 
 returns : tie.Need-returns
 returns c =
-    let r = c .before .before .before in
+    let m = c .before .before in
+    let r = m .before in
     let a = entry r .args in
-    refused-roll (a .file .now) (a .rows .now) (r .read-trailer .result) (c .handed-up .result) (r .read-trailer .ensures) (c .before .before .match .keys2) (c .handed-up .ensures)
-
-plan-found-requires : tie.Need-plan-found-requires
-plan-found-requires c κs =
-    let f = c .before .before in
-    let r = f .before .before in
-    subst (FoundIs (entry r .args .file .now)) (f .found .given .1) (r .read-trailer .ensures)
+    let given : Refuses (fileRules (a .file .now)) (c .refusal-of .result) =
+    subst (Refuses (fileRules (a .file .now))) (sym (c .refusal-of .ensures)) (refuses-file (r .read-trailer .result) (r .read-trailer .ensures) (m .match .keys2)) in
+    (refused-roll (a .file .now) (a .rows .now) given, given .numbered)
 
 pub plan-roll-spec : {M : Type 1} → statement M
 plan-roll-spec =
@@ -32,6 +32,6 @@ plan-roll-spec =
     (λ c. search needs)
     (λ c κs. search needs)
     returns
-    plan-found-requires
+    (λ c κs. subst (TrailerAnswerIs _) (c .before .before .answer .given .1) (c .before .before .before .before .read-trailer .ensures))
     (λ c. search needs)
-    (λ c. c .before .before .plan-found .ensures))
+    (λ c. c .before .before .plan-list .ensures))
