@@ -6,7 +6,9 @@ use mathlib.Core.List.{List}
 use native.Mathlib.Omega.{arith}
 use lib.ListN.{length, getD}
 use lib.Seq.{ext-getD}
-use Rattle.answers.specs.Numbers.{width}
+use Rattle.answers.specs.Numbers.{width, numberOf, placeOf, blocksOf, Proper}
+use Rattle.answers.specs.declared.Answer.{Answer}
+use Rattle.answers.proofs.Replies.{same-answer}
 use Rattle.trials.specs.Rules.{Rule}
 use Rattle.trials.proofs.Passing.{Passed}
 use Rattle.trials.proofs.Single.{Soles, one-refusal, not-refused}
@@ -65,9 +67,17 @@ one-outcome rules ℓ f before single works (suc n) p b (suc n′) p′ b′ a a
     let s = one-refusal rules (single .single) (suc n) p (suc n′) p′ (v .0) (w .0) in
     (s .0, s .1, v .1 ∙ sym (w .1), v .2 ∙ sym (w .2))
 
--- The promise allows one answer and one buffer for each input.
+-- The promise allows one number, place, block count and buffer for each input.
 pub one-result :
     (x : Input) (number place blocks number′ place′ blocks′ : ℕ) (after after′ : List ℕ) →
     PlanOutcome x number place blocks after → PlanOutcome x number′ place′ blocks′ after′ →
     (number ≡ number′) × (place ≡ place′) × (blocks ≡ blocks′) × (after ≡ after′)
 one-result x = one-outcome (planRules x) (reportsOf x) (fastestOf x) (x .buffer) (single-rules x) (works x)
+
+-- And one answer: the enum itself.
+pub one-answer :
+    (x : Input) (a b : Answer) (after after′ : List ℕ) →
+    PlanOutcome x (numberOf a) (placeOf a) (blocksOf a) after × Proper a → PlanOutcome x (numberOf b) (placeOf b) (blocksOf b) after′ × Proper b → (a ≡ b) × (after ≡ after′)
+one-answer x a b after after′ v w =
+    let e = one-result x (numberOf a) (placeOf a) (blocksOf a) (numberOf b) (placeOf b) (blocksOf b) after after′ (v .0) (w .0) in
+    (same-answer a b (v .1) (w .1) (e .0) (e .1) (e .2), e .3)

@@ -3,13 +3,14 @@
 use Prim.Native.Nat.{ℕ, zero, suc, _≤_, _<_}
 use mathlib.Core.Path.{_≡_, refl, sym, _∙_, ap, subst, subst₂}
 use mathlib.Core.List.{List, [], _∷_, _++_, map}
-use mathlib.Core.Logic.{inl}
+use mathlib.Core.Logic.{_⊎_, inl, inr, ⊎-elim}
 use native.Mathlib.Omega.{arith}
 use lib.ListN.{length, take}
 use Rattle.answers.specs.declared.Refusal.{Refusal}
 use Rattle.trials.specs.Rules.{Rule, Refused, Accepted, Refuses}
-use Rattle.trials.proofs.Passing.{Passed, both}
+use Rattle.trials.proofs.Passing.{Passed, both, first-part, last-part}
 use Rattle.trials.proofs.Trying.{refused-first, refused-later}
+use Rattle.trials.proofs.Numbers.{refused-by-either}
 use Rattle.fraction.specs.Fraction.{Fraction, over}
 use Rattle.critical.specs.Reports.{Reports, listOf, Positive, Plannable}
 use Rattle.critical.specs.Rows.{planOf}
@@ -21,6 +22,13 @@ use Rattle.rules.specs.Leaves.{Sized, Paced}
 use Rattle.planner.specs.Inside.{PassEnds, BlocksIn}
 use Rattle.rules.specs.declared.Roll.{Roll}
 use Rattle.lists.proofs.Filling.{length-map}
+
+-- A refusal by some of the rules: it has a number, there are no blocks, and the buffer is as it was.
+pub record RefusedBy (rules : List Rule) (before : List ℕ) (number place blocks : ℕ) (after : List ℕ) : Type 0 where
+  pub numbered : 0 < number
+  pub refused : Refused rules number place
+  pub no-blocks : blocks ≡ 0
+  pub untouched : after ≡ before
 
 module _ (ℓ : Reports) (f : Fraction) (before : List ℕ) where
   refused : (rules : List Rule) (number place : ℕ) → 0 < number → Refused rules number place → Outcome rules ℓ f before number place 0 before
@@ -37,6 +45,16 @@ module _ (ℓ : Reports) (f : Fraction) (before : List ℕ) where
   unfolding Outcome
   goes-on ps qs zero place blocks after p o = (both ps qs p (record { accepted = o .0 }) .accepted, o .1, o .2)
   goes-on ps qs (suc k) place blocks after p o = (refused-later ps qs (suc k) place (p .accepted) (o .0), o .1, o .2)
+
+  -- and so backwards: by two lists of rules it is a refusal by the first, or the first is silent and it is the outcome by the second
+  pub by-either : (ps qs : List Rule) (number place blocks : ℕ) (after : List ℕ) → Outcome (ps ++ qs) ℓ f before number place blocks after → RefusedBy ps before number place blocks after ⊎ (Passed ps × Outcome qs ℓ f before number place blocks after)
+  unfolding Outcome
+  by-either ps qs zero place blocks after o =
+      let p : Passed (ps ++ qs) = record { accepted = o .0 } in
+      inr (first-part ps qs p, (last-part ps qs p .accepted, o .1, o .2))
+  by-either ps qs (suc k) place blocks after o =
+      ⊎-elim (λ r. inl (record { numbered = omega arith; refused = r; no-blocks = o .1; untouched = o .2 }))
+      (λ r. inr (record { accepted = r .0 }, (r .1, o .1, o .2))) (refused-by-either ps qs (suc k) place (o .0))
 
   -- no rule is given
   pub plans : (rules : List Rule) (blocks : ℕ) (after : List ℕ) → Passed rules → Written ℓ f before blocks after → Outcome rules ℓ f before 0 0 blocks after

@@ -4,3 +4,4 @@ pub mod Trying
 pub mod Single
 pub mod Deciding
 pub mod Numbers
+pub mod Alike

@@ -4,7 +4,7 @@ use Prim.Native.Nat.{ℕ}
 use mathlib.Core.Path.{_≡_}
 use mathlib.Core.Bool.{false}
 use mathlib.Core.List.{List, [], _∷_, _++_}
-use mathlib.Core.Logic.{inl, inr, ⊎-elim}
+use mathlib.Core.Logic.{_⊎_, inl, inr, ⊎-elim}
 use lib.Dec.{eqb}
 use borrow.Author.Tests.{eqb-false}
 use Rattle.trials.specs.Rules.{Rule, rule, Refused, Accepted}
@@ -16,6 +16,13 @@ unfolding Accepted Refused
 refused-behind [] qs number place a r = r
 refused-behind (q ∷ rs) qs number place a (inl g) = absurd (a .0 place (g .1))
 refused-behind (q ∷ rs) qs number place a (inr r) = refused-behind rs qs number place (a .1) (r .1)
+
+-- a refusal by two lists of rules is one by the first, or the first is silent and it is one by the second
+pub refused-by-either : (ps qs : List Rule) (number place : ℕ) → Refused (ps ++ qs) number place → Refused ps number place ⊎ (Accepted ps × Refused qs number place)
+unfolding Accepted Refused
+refused-by-either [] qs number place r = inr (tt, r)
+refused-by-either (p ∷ ps) qs number place (inl g) = inl (inl g)
+refused-by-either (p ∷ ps) qs number place (inr r) = ⊎-elim (λ f. inl (inr (r .0, f))) (λ s. inr ((r .0, s .0), s .1)) (refused-by-either ps qs number place (r .1))
 
 -- ---- a number that none of some rules has comes from the rules behind them, and those are silent
 unfoldable Other : ℕ → List Rule → Type 0
