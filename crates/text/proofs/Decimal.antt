@@ -11,7 +11,8 @@ use Rattle.io.specs.Digits.{digits, Fewest}
 use Rattle.text.specs.Text.{placesUpTo, decimal}
 
 -- ---- the places are the fewest that hold the number
-chosen : (P : ℕ → Type 0) (b : Bool) (m n : ℕ) → (T b → P m) → (T (not b) → P n) → P (cond b m n)
+-- What holds of either choice holds of the one that is made.
+pub chosen : (P : ℕ → Type 0) (b : Bool) (m n : ℕ) → (T b → P m) → (T (not b) → P n) → P (cond b m n)
 chosen P true m n f g = f tt
 chosen P false m n f g = g tt
 
@@ -34,7 +35,8 @@ one-more n k h f =
         let q : 10 ^ suc k ≤ n / 10 = subst (λ (j : ℕ). 10 ^ j ≤ n / 10) e (f .2 (omega arith)) in
         omega (arith, p, q)
 
-fewest-places : (most n : ℕ) → n ≤ most → Fewest 10 1 n (placesUpTo most n)
+-- The places of a number are the fewest that hold it.
+pub fewest-places : (most n : ℕ) → n ≤ most → Fewest 10 1 n (placesUpTo most n)
 unfolding placesUpTo
 fewest-places zero n h = one-digit n (omega arith)
 fewest-places (suc most) n h =
