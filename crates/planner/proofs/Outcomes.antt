@@ -56,6 +56,11 @@ module _ (ℓ : Reports) (f : Fraction) (before : List ℕ) where
       ⊎-elim (λ r. inl (record { numbered = omega arith; refused = r; no-blocks = o .1; untouched = o .2 }))
       (λ r. inr (record { accepted = r .0 }, (r .1, o .1, o .2))) (refused-by-either ps qs (suc k) place (o .0))
 
+  pub refused-outcome : (ps qs : List Rule) (number place blocks : ℕ) (after : List ℕ) → RefusedBy ps before number place blocks after → Outcome (ps ++ qs) ℓ f before number place blocks after
+  unfolding Outcome
+  refused-outcome ps qs zero place blocks after r = absurd (omega (arith, r .numbered))
+  refused-outcome ps qs (suc k) place blocks after r = (refused-first ps qs (suc k) place (r .refused), r .no-blocks, r .untouched)
+
   -- no rule is given
   pub plans : (rules : List Rule) (blocks : ℕ) (after : List ℕ) → Passed rules → Written ℓ f before blocks after → Outcome rules ℓ f before 0 0 blocks after
   unfolding Outcome

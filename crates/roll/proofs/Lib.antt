@@ -2,3 +2,5 @@ pub mod FileRules
 pub mod Rolls
 pub mod OneResult
 pub mod HandsBack
+pub mod Preface
+pub mod Demands

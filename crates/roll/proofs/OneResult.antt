@@ -1,4 +1,4 @@
--- The promises of the roll's reader and of `plan_roll` allow one result for each string of bytes, and the file rules decide each.
+-- The promises of the roll's reader and of `plan_roll` allow one result for each string of bytes, and for `plan_roll` there is one: the file rules decide each.
 -- Assumes nothing.
 use Prim.Native.Nat.{ℕ, _-_}
 use mathlib.Core.Path.{_≡_, sym, _∙_, ap}
@@ -14,7 +14,12 @@ use Rattle.trials.proofs.Deciding.{Decidable, Decides, Gives, deciding, passed-
 use Rattle.rules.specs.Offsets.{Input, reportsOf, fastestOf}
 use Rattle.rules.specs.Rules.{planRules}
 use Rattle.rules.specs.declared.Roll.{Roll}
+use Rattle.answers.specs.Numbers.{numberOf, placeOf, blocksOf, Proper}
+use Rattle.answers.specs.declared.Answer.{Answer}
+use Rattle.answers.proofs.Replies.{same-answer}
 use Rattle.planner.proofs.OneResult.{one-outcome}
+use Rattle.planner.proofs.SomeResult.{some-result}
+use Rattle.planner.proofs.Outcomes.{hands-up, goes-on}
 use Rattle.rules.proofs.Table.{one-plan-rule, works}
 use Rattle.roll.specs.Format.{Marked, fileRules, inputOf, rollRules, RollOutcome}
 use Rattle.roll.specs.Answers.{TrailerAnswerIs, TrailerIs, NumbersRead, NumbersIs, PartFrom, PartIs}
@@ -32,7 +37,7 @@ pub single-roll : (s : List ℕ) (x : Input) → Soles (rollRules s x)
 single-roll s x = search (singly, one-plan-rule) depth 40
 
 -- ---- plan_roll
--- The promise of `plan_roll` allows one answer and one buffer for each roll.
+-- The promise of `plan_roll` allows one number, place, block count and buffer for each roll,
 pub one-roll :
     (s buffer : List ℕ) (number place blocks number′ place′ blocks′ : ℕ) (after after′ : List ℕ) →
     RollOutcome s buffer number place blocks after → RollOutcome s buffer number′ place′ blocks′ after′ →
@@ -40,6 +45,14 @@ pub one-roll :
 one-roll s buffer =
     let x = inputOf s buffer in
     one-outcome (rollRules s x) (reportsOf x) (fastestOf x) buffer (single-roll s x) (λ p. works x (last-part (fileRules s) (planRules x) p))
+
+-- and one answer: the enum itself.
+pub one-roll-answer :
+    (s buffer : List ℕ) (a b : Answer) (after after′ : List ℕ) →
+    RollOutcome s buffer (numberOf a) (placeOf a) (blocksOf a) after × Proper a → RollOutcome s buffer (numberOf b) (placeOf b) (blocksOf b) after′ × Proper b → (a ≡ b) × (after ≡ after′)
+one-roll-answer s buffer a b after after′ v w =
+    let e = one-roll s buffer (numberOf a) (placeOf a) (blocksOf a) (numberOf b) (placeOf b) (blocksOf b) after after′ (v .0) (w .0) in
+    (same-answer a b (v .1) (w .1) (e .0) (e .1) (e .2), e .3)
 
 -- ---- read_trailer
 trailer : ℕ → Roll → Trailer
@@ -58,8 +71,7 @@ one-trailer-answer s (Is t) (Not b) v w = absurd (not-refused (fileRules s) (v .
 one-trailer-answer s (Not a) (Is u) v w = absurd (not-refused (fileRules s) (w .0) (a .number) (a .place) (v .refused))
 one-trailer-answer s (Not a) (Not b) v w = ap Not (one-refuses (single-file s) v w)
 
--- ---- records
--- every string of bytes is accepted or refused by the file rules
+-- ---- every string of bytes is accepted or refused by the file rules
 unfoldable pub dec-marked : {s : List ℕ} → Decidable (Marked s)
 dec-marked {s} = record {
   decided = elim (ℕ-discrete (getD s (length s - 2) 0) 0x41) [
@@ -74,6 +86,22 @@ decides-file s = search (deciding, dec-marked) depth 40
 pub file-decided : (s : List ℕ) → Passed (fileRules s) ⊎ Gives (fileRules s)
 file-decided s = passed-or-given (decides-file s)
 
+-- And there is a result for each roll.
+pub some-roll : (s buffer : List ℕ) → (number : ℕ) × (place : ℕ) × (blocks : ℕ) × (after : List ℕ) × RollOutcome s buffer number place blocks after
+some-roll s buffer =
+    let x = inputOf s buffer in
+    ⊎-elim
+    (λ (p : Passed (fileRules s)). let o = some-result x in (o .0, o .1, o .2, o .3, goes-on (reportsOf x) (fastestOf x) buffer (fileRules s) (planRules x) (o .0) (o .1) (o .2) (o .3) p (o .4)))
+    (λ (g : Gives (fileRules s)). (
+      g .number,
+      g .place,
+      0,
+      buffer,
+      hands-up (reportsOf x) (fastestOf x) buffer (fileRules s) (planRules x) (record { refused = g .refused; numbered = g .numbered }),
+    ))
+    (file-decided s)
+
+-- ---- records
 -- what a promise by the file rules says of two results holds, whichever way they go
 by-file : (s : List ℕ) (F : Type 0) → (Accepted (fileRules s) → F) → ((number place : ℕ) → Refused (fileRules s) number place → F) → F
 by-file s F f g = ⊎-elim (λ p. f (p .accepted)) (λ h. g (h .number) (h .place) (h .refused)) (file-decided s)
