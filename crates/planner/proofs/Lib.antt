@@ -6,4 +6,5 @@ pub mod Outcomes
 pub mod OneResult
 pub mod SomeResult
 pub mod Demands
+pub mod Table
 pub mod WrongAnswers

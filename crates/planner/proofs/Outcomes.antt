@@ -12,7 +12,7 @@ use Rattle.trials.proofs.Passing.{Passed, both, first-part, last-part}
 use Rattle.trials.proofs.Trying.{refused-first, refused-later}
 use Rattle.trials.proofs.Numbers.{refused-by-either}
 use Rattle.fraction.specs.Fraction.{Fraction, over}
-use Rattle.critical.specs.Reports.{Reports, listOf, Positive, Plannable}
+use Rattle.critical.specs.Reports.{Reports, listOf, Positive, Plannable, FirstWithout}
 use Rattle.critical.specs.Rows.{planOf}
 use Rattle.critical.proofs.Theorems.{room-decides, not-both}
 use Rattle.rules.specs.Offsets.{offset, offsetsOf, paceOf}
@@ -72,6 +72,11 @@ module _ (ℓ : Reports) (f : Fraction) (before : List ℕ) where
   accepts form blocks after p w =
       goes-on form (planRule ℓ f ∷ []) 0 0 blocks after p
       (plans (planRule ℓ f ∷ []) blocks after (record { accepted = (λ place g. not-both ℓ f place (planOf blocks (rowAt after), w .rows .plan .allowed) g, tt) }) w)
+
+  -- no rule before rule 9 is given, and it is
+  pub rejects : (form : List Rule) (i : ℕ) → Passed form → FirstWithout ℓ f i → Outcome (form ++ (planRule ℓ f ∷ [])) ℓ f before 9 i 0 before
+  unfolding Refused
+  rejects form i p w = goes-on form (planRule ℓ f ∷ []) 9 i 0 before p (refused (planRule ℓ f ∷ []) 9 i (omega arith) (inl (refl, w)))
 
 -- ---- rule 9 and the rows
 module _ (ℓ : Reports) (terms : Roll) (paced : Paced terms) (before : List ℕ) where

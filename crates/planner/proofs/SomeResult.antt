@@ -3,13 +3,13 @@
 use Prim.Native.Nat.{ℕ, zero, suc, _+_, _*_, _≤_, _<_}
 use mathlib.Core.Path.{_≡_, refl, sym, _∙_}
 use mathlib.Core.List.{List, [], _∷_, _++_}
-use mathlib.Core.Logic.{inl, ⊎-elim}
+use mathlib.Core.Logic.{⊎-elim}
 use native.Mathlib.Omega.{arith}
 use native.Mathlib.Nat.{eq-or-lt-of-le, le-of-suc-le-suc, not-suc-le-zero, le-refl}
 use lib.ListN.{length, getD}
 use Rattle.answers.specs.Numbers.{width, numbersOf}
 use Rattle.answers.specs.declared.Row.{Row as Numbers}
-use Rattle.trials.specs.Rules.{Rule, Accepted, Refused}
+use Rattle.trials.specs.Rules.{Rule}
 use Rattle.trials.proofs.Passing.{Passed, Quiet, finding}
 use Rattle.trials.proofs.Deciding.{Gives, passed-or-given}
 use Rattle.fraction.specs.Fraction.{Fraction}
@@ -18,7 +18,7 @@ use Rattle.critical.specs.Rows.{Row, behind}
 use Rattle.critical.proofs.Cover.{few-rows}
 use Rattle.critical.proofs.Chain.{chain-same, behind-same, chain-critical}
 use Rattle.critical.proofs.Exists.{exists-chain}
-use Rattle.critical.proofs.Theorems.{room-decides, plan-or-refusal, not-both}
+use Rattle.critical.proofs.Theorems.{room-decides, plan-or-refusal}
 use Rattle.rules.specs.Offsets.{Input, offset, reportsOf, fastestOf}
 use Rattle.rules.specs.Rules.{shortRule, paceRule, operationsRule, planRule, overallRules, formRules}
 use Rattle.rules.proofs.Table.{decided}
@@ -27,7 +27,7 @@ use Rattle.planner.specs.Inside.{putRow}
 use Rattle.lists.proofs.Filling.{length-map}
 use Rattle.planner.proofs.Writing.{length-put, put-behind, row-other, row-put}
 use Rattle.rules.proofs.Leaving.{enough-room, good-pace, working}
-use Rattle.planner.proofs.Outcomes.{hands-up, goes-on, plans, positive}
+use Rattle.planner.proofs.Outcomes.{hands-up, accepts, rejects, positive}
 
 -- ---- rows in a buffer
 -- the numbers of a row
@@ -103,7 +103,7 @@ module _ (x : Input) where
 
   -- none is: rule 9 is given, or there are rows
   some-plan : Passed form → Some
-  unfolding Some Accepted Refused
+  unfolding Some
   some-plan p =
       let short : Quiet (shortRule (length (x .arrivals)) (length (x .buffer))) = search finding depth 40 in
       let pace : Quiet (paceRule (x .terms)) = search finding depth 40 in
@@ -117,16 +117,14 @@ module _ (x : Input) where
         0,
         w .0,
         w .1,
-        goes-on ℓ f (x .buffer) form (planRule ℓ f ∷ []) 0 0 (w .0) (w .1) p
-            (plans ℓ f (x .buffer) (planRule ℓ f ∷ []) (w .0) (w .1) (record { accepted = (λ place g. not-both ℓ f place plan g, tt) }) (w .2)),
+        accepts ℓ f (x .buffer) form (w .0) (w .1) p (w .2),
       ))
       (λ (w : (i : ℕ) × FirstWithout ℓ f i). (
         9,
         w .0,
         0,
         x .buffer,
-        goes-on ℓ f (x .buffer) form (planRule ℓ f ∷ []) 9 (w .0) 0 (x .buffer) p
-            (hands-up ℓ f (x .buffer) (planRule ℓ f ∷ []) [] (record { refused = inl (refl, w .1); numbered = omega arith })),
+        rejects ℓ f (x .buffer) form (w .0) p (w .1),
       ))
       (plan-or-refusal ℓ f pos)
 

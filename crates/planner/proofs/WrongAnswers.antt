@@ -2,24 +2,14 @@
 -- the same input is then shut out, since the promise allows one result only.
 -- Assumes nothing.
 use Prim.Native.Nat.{ℕ, _<_}
-use mathlib.Core.Path.{_≡_, refl, sym, _∙_, ap}
-use mathlib.Core.List.{List, [], _∷_, _++_}
+use mathlib.Core.Path.{_≡_, ap}
+use mathlib.Core.List.{List, [], _∷_}
 use native.Mathlib.Omega.{arith}
-use native.Mathlib.Decide.{ℕ-discrete, decLt}
-use lib.ListN.{getD, List·getD-eq-default}
-use Rattle.trials.specs.Rules.{Falls}
-use Rattle.trials.proofs.Passing.{Passed}
-use Rattle.trials.proofs.Deciding.{dec-below, dec-equal, dec-not, dec-or, dec-falls, Decided, decides-none, decides-overall, decides-least, least-or-none, passes, passed-by}
-use Rattle.fraction.specs.Fraction.{whole, over, plus, times, later}
-use Rattle.critical.specs.Reports.{start}
-use Rattle.critical.specs.Rows.{holder, behind, sum, Critical}
-use Rattle.critical.proofs.Tests.{test-critical}
-use Rattle.rules.specs.Offsets.{Input, reportsOf, fastestOf}
-use Rattle.rules.specs.Rules.{overallRules, formRules}
-use Rattle.planner.specs.Outcome.{rowAt, PlanOutcome}
-use Rattle.planner.proofs.Outcomes.{accepts}
-use Rattle.rules.proofs.Table.{decided}
+use lib.ListN.{getD, replicate}
+use Rattle.rules.specs.Offsets.{Input}
+use Rattle.planner.specs.Outcome.{PlanOutcome}
 use Rattle.planner.proofs.OneResult.{one-result}
+use Rattle.planner.proofs.Table.{AllGiven, starred, starred-given, given-from}
 use Rattle.planner.proofs.Demands.{a-refusal-writes-nothing}
 
 -- A planner whose refusal touches the buffer.
@@ -46,29 +36,15 @@ crowded = record {
   deadlines = 4 ∷ 20 ∷ 16 ∷ [];
   operations = 2 ∷ 2 ∷ 2 ∷ [];
   terms = record { reference = 0; p = 1; q = 1 };
-  buffer = 7 ∷ 7 ∷ 7 ∷ 7 ∷ 7 ∷ 7 ∷ 7 ∷ 7 ∷ 7 ∷ 7 ∷ 7 ∷ 7 ∷ 7 ∷ 7 ∷ 7 ∷ [];
+  buffer = replicate 17 7;
 }
 
 pub crowded-rows : List ℕ
-crowded-rows = 0 ∷ 0 ∷ 0 ∷ 4 ∷ 2 ∷ 1 ∷ 1 ∷ 4 ∷ 12 ∷ 2 ∷ 2 ∷ 2 ∷ 12 ∷ 16 ∷ 2 ∷ []
-
--- its rules are silent, which is computed; the rows are those of the plan wanted
-crowded-form : Passed (overallRules crowded ++ formRules (reportsOf crowded))
-unfolding crowded decided passes Decided dec-below dec-equal dec-not dec-or dec-falls decides-none decides-overall decides-least least-or-none Falls ℕ-discrete decLt
-crowded-form = passed-by (decided crowded) tt
-
-crowded-critical : Critical (reportsOf crowded) (fastestOf crowded) 3 (rowAt crowded-rows)
-unfolding crowded crowded-rows start holder behind sum whole over plus times later
-crowded-critical = test-critical (reportsOf crowded) (fastestOf crowded) 3 (rowAt crowded-rows) .sound tt
+crowded-rows = 0 ∷ 0 ∷ 0 ∷ 4 ∷ 2 ∷ 1 ∷ 1 ∷ 4 ∷ 12 ∷ 2 ∷ 2 ∷ 2 ∷ 12 ∷ 16 ∷ 2 ∷ 7 ∷ 7 ∷ []
 
 pub crowded-right : PlanOutcome crowded 0 0 3 crowded-rows
-unfolding crowded crowded-rows
-crowded-right =
-    accepts (reportsOf crowded) (fastestOf crowded) (crowded .buffer) (overallRules crowded ++ formRules (reportsOf crowded)) 3 crowded-rows crowded-form (record {
-      rows = crowded-critical;
-      as-long = refl;
-      behind = λ i h. List·getD-eq-default crowded-rows 0 h ∙ sym (List·getD-eq-default (crowded .buffer) 0 h);
-    })
+unfolding crowded crowded-rows starred AllGiven
+crowded-right = given-from 10 starred starred-given .0
 
 -- A planner that refuses everything: no plan, though there is one.
 pub not-refused : PlanOutcome crowded 9 0 0 (crowded .buffer) → ⊥

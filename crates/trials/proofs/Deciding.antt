@@ -70,14 +70,14 @@ decides-least {number} {n} {F} d some rest = record { decides = (least-or-none n
 -- what search is handed for a list of rules
 pub ruleset deciding = (decides-overall, decides-least, decides-none, dec-below, dec-equal, dec-not, dec-or, dec-falls)
 
--- ---- a refusal, or none
+-- ---- a refusal, or none: where a list of rules is written out, which of them is computed
 pub record Gives (rules : List Rule) : Type 0 where
   pub number : ℕ
   pub place : ℕ
   pub numbered : 0 < number
   pub refused : Refused rules number place
 
-outcome : (rules : List Rule) → Decided rules → Passed rules ⊎ Gives rules
+unfoldable pub outcome : (rules : List Rule) → Decided rules → Passed rules ⊎ Gives rules
 unfolding Decided Accepted Refused
 outcome [] d = inl (record { accepted = tt })
 outcome (r ∷ rs) d =
@@ -85,7 +85,7 @@ outcome (r ∷ rs) d =
     (λ s. ⊎-elim (λ a. inl (record { accepted = (s, a .accepted) }))
     (λ g. inr (record { number = g .number; place = g .place; numbered = g .numbered; refused = inr (s, g .refused) })) (outcome rs (d .2))) (d .0)
 
-pub passed-or-given : {rules : List Rule} → Decides rules → Passed rules ⊎ Gives rules
+unfoldable pub passed-or-given : {rules : List Rule} → Decides rules → Passed rules ⊎ Gives rules
 passed-or-given {rules} d = outcome rules (d .decides)
 
 -- ---- where a list of rules is written out, whether none is given can be computed
