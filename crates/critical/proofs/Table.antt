@@ -53,7 +53,7 @@ NoneRight (e ∷ es) = (Right (listOf (e .arrivals) (e .deadlines) (e .operation
 abbrev entry : List ℕ → List ℕ → List ℕ → Result → Entry
 entry a d w r = record { arrivals = a; deadlines = d; operations = w; result = r }
 
-pub starred : List Entry
+unfoldable pub starred : List Entry
 starred =
     entry [] [] [] (blocks [])
     ∷ entry (0 ∷ []) (10 ∷ []) (4 ∷ []) (blocks (block 0 0 0 10 4 ∷ []))

@@ -4,7 +4,7 @@
 use Prim.Native.Nat.{ℕ, zero, suc, _+_, _*_, _-_, _≤_, _<_}
 use mathlib.Core.Path.{_≡_, refl, sym, _∙_}
 use mathlib.Core.Bool.{Bool, true, false, _&&_}
-use mathlib.Core.List.{List, [], _∷_, _++_}
+use mathlib.Core.List.{List, [], _∷_, _++_, map}
 use mathlib.Core.Logic.{_⊎_, inl, inr}
 use native.Mathlib.Omega.{arith}
 use native.Mathlib.Decide.{ℕ-discrete, decLt}
@@ -21,6 +21,7 @@ use Rattle.critical.specs.Rows.{Row, holder, behind, sum, Critical}
 use Rattle.critical.proofs.Room.{steady, TimelyTo, stops-first}
 use Rattle.critical.proofs.Tests.{Test, test-and, test-le, test-lt, test-eq, test-≼, test-≺, test-below, test-critical, and-left, and-right}
 use Rattle.critical.proofs.Table.{block}
+use Rattle.critical.proofs.Table as Definitions
 use Rattle.rules.specs.Offsets.{Input, reportsOf, fastestOf}
 use Rattle.rules.specs.Rules.{paceRule, planRule, overallRules, formRules}
 use Rattle.rules.specs.declared.Roll.{Roll}
@@ -98,21 +99,14 @@ entry a d w reference p q r = record { arrivals = a; deadlines = d; operations =
 abbrev plain : List ℕ → List ℕ → List ℕ → Result → Entry
 plain a d w r = entry a d w 0 1 1 r
 
--- The starred rows.
+-- a result of the definitions' table
+abbrev resultOf : Definitions.Result → Result
+resultOf (Definitions.blocks rows) = planned rows
+resultOf (Definitions.nine place) = refused 9 place
+
+-- The starred rows, as the definitions' table has them.
 unfoldable pub starred : List Entry
-starred =
-    plain [] [] [] (planned [])
-    ∷ plain (0 ∷ []) (10 ∷ []) (4 ∷ []) (planned (block 0 0 0 10 4 ∷ []))
-    ∷ plain (0 ∷ []) (4 ∷ []) (4 ∷ []) (planned (block 0 0 0 4 4 ∷ []))
-    ∷ plain (0 ∷ []) (4 ∷ []) (5 ∷ []) (refused 9 0)
-    ∷ plain (0 ∷ 0 ∷ []) (4 ∷ 12 ∷ []) (2 ∷ 2 ∷ []) (planned (block 0 0 0 4 2 ∷ block 1 1 4 12 2 ∷ []))
-    ∷ plain (0 ∷ 6 ∷ []) (10 ∷ 10 ∷ []) (2 ∷ 2 ∷ []) (planned (block 0 0 0 6 2 ∷ block 1 1 6 10 2 ∷ []))
-    ∷ plain (0 ∷ 10 ∷ []) (4 ∷ 14 ∷ []) (2 ∷ 2 ∷ []) (planned (block 0 0 0 4 2 ∷ block 1 1 10 14 2 ∷ []))
-    ∷ plain (0 ∷ 4 ∷ []) (4 ∷ 8 ∷ []) (2 ∷ 2 ∷ []) (planned (block 0 1 0 8 4 ∷ []))
-    ∷ plain (0 ∷ 0 ∷ []) (10 ∷ 5 ∷ []) (3 ∷ 2 ∷ []) (planned (block 0 1 0 5 5 ∷ []))
-    ∷ plain (0 ∷ 0 ∷ 9 ∷ 9 ∷ []) (6 ∷ 20 ∷ 20 ∷ 12 ∷ []) (2 ∷ 2 ∷ 1 ∷ 1 ∷ []) (planned (block 0 1 0 9 4 ∷ block 2 3 9 12 2 ∷ []))
-    ∷ plain (0 ∷ 0 ∷ 12 ∷ []) (4 ∷ 20 ∷ 16 ∷ []) (2 ∷ 2 ∷ 2 ∷ []) (planned (block 0 0 0 4 2 ∷ block 1 1 4 12 2 ∷ block 2 2 12 16 2 ∷ []))
-    ∷ []
+starred = map (λ e. plain (e .arrivals) (e .deadlines) (e .operations) (resultOf (e .result))) Definitions.starred
 
 -- The rows without a star; 01's list with a reference; and a list each for the refusals 1, 2, 4 and 6. Refusal 3 is left out: the buffer of an entry is never too short.
 pub others : List Entry
@@ -218,7 +212,7 @@ all-given (e ∷ es) t =
 
 -- The eleven starred rows.
 pub starred-given : AllGiven starred
-unfolding starred every test
+unfolding starred Definitions.starred every test
 starred-given = all-given starred tt
 
 -- And the others.

@@ -6,6 +6,7 @@ use mathlib.Core.Path.{_≡_, ap}
 use mathlib.Core.List.{List, [], _∷_}
 use native.Mathlib.Omega.{arith}
 use lib.ListN.{getD, replicate}
+use Rattle.critical.proofs.Table as Definitions
 use Rattle.rules.specs.Offsets.{Input}
 use Rattle.planner.specs.Outcome.{PlanOutcome}
 use Rattle.planner.proofs.OneResult.{one-result}
@@ -43,7 +44,7 @@ pub crowded-rows : List ℕ
 crowded-rows = 0 ∷ 0 ∷ 0 ∷ 4 ∷ 2 ∷ 1 ∷ 1 ∷ 4 ∷ 12 ∷ 2 ∷ 2 ∷ 2 ∷ 12 ∷ 16 ∷ 2 ∷ 7 ∷ 7 ∷ []
 
 pub crowded-right : PlanOutcome crowded 0 0 3 crowded-rows
-unfolding crowded crowded-rows starred AllGiven
+unfolding crowded crowded-rows starred Definitions.starred AllGiven
 crowded-right = given-from 10 starred starred-given .0
 
 -- A planner that refuses everything: no plan, though there is one.

@@ -21,6 +21,7 @@ ghost use Rattle.roll.specs.declared.TrailerAnswer.the-variants.{Is};
 ghost use Rattle.roll.specs.Answers.{TrailerIs, TrailerAnswerIs, NumbersIs, PartFrom, PartIs, refusalIn, numbersRefused};
 
 // The trailer's numbers: the record count, and the terms that the list comes with.
+#[repr(C)]
 pub struct Trailer {
     pub count: u32,
     pub terms: Roll,
@@ -43,6 +44,7 @@ pub enum TrailerAnswer {
 
 // What is read of a roll, in numbers: the number of the refusal, 0 where there is none; the trailer's
 // numbers; and where the part with the records lies, and its size. On a refusal all but its number are 0.
+#[repr(C)]
 pub struct Numbers {
     pub refusal: u32,
     pub trailer: Trailer,

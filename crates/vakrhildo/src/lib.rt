@@ -1,10 +1,12 @@
-// The library for other languages: the planner's two entry points under plain names, over numbers and
-// slices. include/vakrhildo.h declares them for C, outside/vakrhildo wraps them for Rust. The promises
-// are those of planner::plan and roll::plan_roll, in 01's numbers.
+// The library for other languages: the planner's two entry points and the roll's reader under plain
+// names, over numbers and slices. include/vakrhildo.h declares them for C, outside/vakrhildo wraps them
+// for Rust. The promises are those of planner::plan, roll::plan_roll and roll::read, in 01's numbers.
 use answers::Reply;
+use roll::Numbers;
 use rules::Roll;
 ghost use Rattle.planner.specs.Outcome.{PlanOutcome};
 ghost use Rattle.roll.specs.Format.{RollOutcome};
+ghost use Rattle.roll.specs.Answers.{NumbersIs};
 
 // Plans a list: three lists of readings, the reference, P and Q, and a buffer for rows.
 #[no_mangle]
@@ -26,9 +28,18 @@ pub extern "C" fn vakrhildo_plan(
 
 // Plans the list in a roll, by all the rules, file rules first.
 #[no_mangle]
-pub extern "C" fn vakrhildo_plan_roll(roll: &[u8], rows: &mut [u32]) -> Reply
-    ensures { λ r. ⌜ RollOutcome (now (roll .entry)) (now (rows .entry)) (r .number) (r .place) (r .blocks) (now (rows .exit)) ⌝ }
+pub extern "C" fn vakrhildo_plan_roll(file: &[u8], rows: &mut [u32]) -> Reply
+    ensures { λ r. ⌜ RollOutcome (now (file .entry)) (now (rows .entry)) (r .number) (r .place) (r .blocks) (now (rows .exit)) ⌝ }
 {
-    let answer = roll::plan_roll(roll, rows);
+    let answer = roll::plan_roll(file, rows);
     answers::in_numbers(answer)
+}
+
+// Reads a roll: the refusal's number, the trailer's numbers, and where the part of the caller's bytes
+// lies that holds the records, and its size.
+#[no_mangle]
+pub extern "C" fn vakrhildo_read(file: &[u8]) -> Numbers
+    ensures { λ r. ⌜ NumbersIs (now (file .entry)) r ⌝ }
+{
+    roll::read_numbers(file)
 }

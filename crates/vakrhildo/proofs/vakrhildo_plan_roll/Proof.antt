@@ -10,7 +10,7 @@ returns : tie.Need-returns
 returns c =
     let p = c .before .before .before in
     let a = p .before .before .before .before .args in
-    to-reply (λ x y z. RollOutcome (a .roll .now) (a .rows .now) x y z (p .plan-roll .last .1 .0)) (c .in-numbers .ensures) (p .plan-roll .ensures .0)
+    to-reply (λ x y z. RollOutcome (a .file .now) (a .rows .now) x y z (p .plan-roll .last .1 .0)) (c .in-numbers .ensures) (p .plan-roll .ensures .0)
 
 pub vakrhildo-plan-roll-spec : {M : Type 1} → statement M
 vakrhildo-plan-roll-spec = tie.close (tie.spec (λ c κs. search needs) (λ c κs. search needs) (λ c. search needs) returns)
