@@ -2,3 +2,4 @@ pub mod Saying
 pub mod OneResult
 pub mod Buffers
 pub mod Sample
+pub mod Demands

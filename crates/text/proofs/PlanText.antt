@@ -1,14 +1,14 @@
 -- The text of a plan: without room, and with it; and that the promise allows one result.
 -- Assumes nothing.
-use Prim.Native.Nat.{ℕ, _*_}
+use Prim.Native.Nat.{ℕ, _+_, _*_}
 use mathlib.Core.Path.{_≡_, refl, sym, _∙_}
-use mathlib.Core.List.{List}
+use mathlib.Core.List.{List, _++_}
 use mathlib.Core.Logic.{_⊎_, inl, inr, ⊎-elim}
 use native.Mathlib.Omega.{arith}
-use lib.ListN.{length}
+use lib.ListN.{length, take, drop}
 use Rattle.answers.specs.Numbers.{width}
 use Rattle.fraction.proofs.Scale.{cases}
-use Rattle.text.specs.Text.{Puts, firstLine, rowLines, textRoom, Room, TextIs}
+use Rattle.text.specs.Text.{Puts, firstLine, rowLines, planText, textRoom, Room, TextIs}
 use Rattle.text.proofs.Putting.{puts-then}
 
 module _ {number place blocks : ℕ} {rows before : List ℕ} where
@@ -36,3 +36,15 @@ pub one-text : (number place blocks : ℕ) (rows before : List ℕ) (r s : ℕ) 
 one-text number place blocks rows before r s a b v w =
     ⊎-elim (λ room. one-put (v .put room) (w .put room))
     (λ none. (v .no-room none .0 ∙ sym (w .no-room none .0), v .no-room none .1 ∙ sym (w .no-room none .1))) (room-decided blocks rows before)
+
+-- And there is one for each.
+pub some-text : (number place blocks : ℕ) (rows before : List ℕ) → (r : ℕ) × (after : List ℕ) × TextIs number place blocks rows before r after
+some-text number place blocks rows before =
+    let text = planText number place blocks rows in
+    ⊎-elim
+    (λ (room : Room blocks rows before). (
+      0 + length text,
+      take 0 before ++ (text ++ drop (0 + length text) before),
+      record { put = λ _. record { behind = refl; written = refl }; no-room = λ h. absurd (h room) },
+    ))
+    (λ (none : Room blocks rows before → ⊥). (0, before, says-nothing none)) (room-decided blocks rows before)

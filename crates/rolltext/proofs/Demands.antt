@@ -1,0 +1,108 @@
+-- The inspector's questions, for what a person sees: the first line that the program writes. For the inspector. Each follows from the promise of `roll_text` alone, `Says`
+-- (specs/Program.antt), which is proved of the running code for every input. s is the program's input; rows and out are buffers as long as the program's; r, after and text are
+-- what `roll_text` returns and what the two buffers then hold. The program writes the first r bytes of text, and nothing else.
+-- Nothing is assumed.
+use Prim.Native.Nat.{ℕ, _+_, _*_, _≤_}
+use mathlib.Core.Path.{_≡_, sym, _∙_, ap, ap₂, subst}
+use mathlib.Core.List.{List, [], _∷_, _++_}
+use mathlib.Core.Logic.{_⊎_, ⊎-elim}
+use native.Mathlib.Omega.{arith}
+use lib.ListN.{length, take, drop}
+use lib.Seq.{take-append-seam}
+use Rattle.answers.specs.Numbers.{width}
+use Rattle.trials.proofs.Passing.{Passed}
+use Rattle.trials.proofs.Numbers.{Never, never-none, never-other}
+use Rattle.fraction.specs.Fraction.{Fraction, _≼_, _≺_, whole}
+use Rattle.critical.specs.Reports.{Reports, Paces, finish, Keeps, Allowed}
+use Rattle.critical.specs.Cost.{sumAt}
+use Rattle.critical.proofs.Room.{steady}
+use Rattle.rules.specs.Offsets.{Input, reportsOf, fastestOf}
+use Rattle.planner.proofs.Outcomes.{RefusedBy, by-either}
+use Rattle.planner.proofs.Demands.{planIn}
+use Rattle.roll.specs.Format.{inputOf, rollRules, RollOutcome}
+use Rattle.roll.proofs.Demands as Of
+use Rattle.text.specs.Text.{Puts, firstLine, rowLines, planText, textRoom}
+use Rattle.text.proofs.FirstLine.{one-first-line}
+use Rattle.rolltext.specs.Program.{longRule, ProgramOutcome, Says}
+use Rattle.rolltext.proofs.Buffers.{said-in-full}
+
+-- Text begins with the line `plan`, number, place, block count.
+pub record Begins (text : List ℕ) (number place blocks : ℕ) : Type 0 where
+  pub rest : List ℕ
+  pub is : text ≡ firstLine number place blocks ++ rest
+
+-- text put at the front of a buffer is what stands there
+put-front : {before text after : List ℕ} {r : ℕ} → Puts before 0 text r after → take r after ≡ text
+put-front {before} {text} {after} {r} p =
+    let e : r ≡ length text = omega (arith, p .behind) in
+    ap₂ (λ (k : ℕ) (l : List ℕ). take k l) e (p .written) ∙ take-append-seam text (drop (0 + length text) before)
+
+module _ (s rows out : List ℕ) (r : ℕ) (after text : List ℕ) (says : Says s rows out r after text) (rows-long : width * 1024 ≤ length rows) (out-long : textRoom 1024 ≤ length out) where
+  -- The list in the input.
+  abbrev list : Input
+  list = inputOf s rows
+
+  abbrev reports : Reports
+  reports = reportsOf list
+
+  abbrev fastest : Fraction
+  fastest = fastestOf list
+
+  -- What is written.
+  abbrev written : List ℕ
+  written = take r text
+
+  written-is : written ≡ planText (says .number) (says .place) (says .blocks) after
+  written-is = put-front (said-in-full s rows out r after text says rows-long out-long)
+
+  -- The first line is there, and it tells the outcome: no other numbers can be read off it.
+  pub it-begins : Begins written (says .number) (says .place) (says .blocks)
+  it-begins = record { rest = rowLines after (says .blocks); is = written-is }
+
+  pub the-first-line-tells-the-outcome : (number place blocks : ℕ) → Begins written number place blocks → ProgramOutcome s rows number place blocks after
+  the-first-line-tells-the-outcome number place blocks b =
+      let e = one-first-line (says .number) (says .place) (says .blocks) number place blocks (rowLines after (says .blocks)) (b .rest) (sym written-is ∙ b .is) in
+      subst (λ (k : ℕ). ProgramOutcome s rows k place blocks after) (e .0)
+      (subst (λ (k : ℕ). ProgramOutcome s rows (says .number) k blocks after) (e .1)
+      (subst (λ (k : ℕ). ProgramOutcome s rows (says .number) (says .place) k after) (e .2) (says .outcome)))
+
+  -- It says 14 where the input is too long; else it says the answer for the roll.
+  pub too-long-or-the-answer-for-the-roll :
+      (number place blocks : ℕ) → Begins written number place blocks →
+      RefusedBy (longRule s ∷ []) rows number place blocks after ⊎ (Passed (longRule s ∷ []) × RollOutcome s rows number place blocks after)
+  too-long-or-the-answer-for-the-roll number place blocks b =
+      by-either reports fastest rows (longRule s ∷ []) (rollRules s list) number place blocks after (the-first-line-tells-the-outcome number place blocks b)
+
+  planned : (place blocks : ℕ) → Begins written 0 place blocks → RollOutcome s rows 0 place blocks after
+  planned place blocks b = ⊎-elim (λ h. absurd (omega (arith, h .numbered))) (λ p. p .1) (too-long-or-the-answer-for-the-roll 0 place blocks b)
+
+  never-nine : Never 9 (longRule s ∷ [])
+  never-nine = search (never-other, never-none) depth 40
+
+  without-a-plan : (place blocks : ℕ) → Begins written 9 place blocks → RollOutcome s rows 9 place blocks after
+  without-a-plan place blocks b = ⊎-elim (λ h. absurd (never-nine .never place (h .refused))) (λ p. p .1) (too-long-or-the-answer-for-the-roll 9 place blocks b)
+
+  -- ---- The inspector's three questions
+
+  -- "Was there a plan that kept every window?" Yes, where the first line begins with `plan 0`: the rows, which are the lines that follow, are one.
+  pub was-there-a-plan : (place blocks : ℕ) → Begins written 0 place blocks → Allowed reports fastest (planIn blocks after)
+  was-there-a-plan place blocks b = Of.was-there-a-plan s rows place blocks after (planned place blocks b)
+
+  pub the-lines-that-follow-are-the-rows : (place blocks : ℕ) → Begins written 0 place blocks → written ≡ planText 0 place blocks after
+  the-lines-that-follow-are-the-rows place blocks b =
+      let e = one-first-line (says .number) (says .place) (says .blocks) 0 place blocks (rowLines after (says .blocks)) (b .rest) (sym written-is ∙ b .is) in
+      written-is ∙ ap (λ (k : ℕ). planText k (says .place) (says .blocks) after) (e .0)
+      ∙ ap (λ (k : ℕ). planText 0 k (says .blocks) after) (e .1) ∙ ap (λ (k : ℕ). planText 0 place k after) (e .2)
+
+  -- "When a buoy says there is none, how do you know?" Where it begins with `plan 9` and a report, every plan fails that runs no report faster than P/Q; and with all reports at that pace,
+  -- the report named still comes late.
+  pub how-do-you-know-there-is-none :
+      (place blocks : ℕ) → Begins written 9 place blocks →
+      ((T : Paces) → Allowed reports fastest T → ⊥) × (whole (reports .deadline place) ≺ finish reports (steady fastest) place)
+  how-do-you-know-there-is-none place blocks b = Of.how-do-you-know-there-is-none s rows place blocks after (without-a-plan place blocks b)
+
+  -- "When it hurries, did it need to?" Yes, over the whole list: at no threshold c has a plan that keeps the list a smaller sum of operations times shortfall than the plan of the lines that follow.
+  pub did-it-need-to-hurry :
+      (place blocks : ℕ) → Begins written 0 place blocks →
+      (rival : Paces) → Keeps reports rival → (c : Fraction) → sumAt reports c (planIn blocks after) ≼ sumAt reports c rival
+  did-it-need-to-hurry place blocks b = Of.did-it-need-to-hurry s rows place blocks after (planned place blocks b)
