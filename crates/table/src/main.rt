@@ -1,12 +1,12 @@
-// Runs every row of 01's table through plan, and each refusal, and writes two lines for each: number,
-// place and block count; then the buffer, whose 30 numbers are all 7 beforehand.
+// Runs every row of 01's table through plan, and each refusal, and writes for each what was handed in,
+// what came back, and the buffer, whose 30 numbers are all 7 beforehand.
 use libc::STDOUT_FILENO;
 use rules::Roll;
 
-// Writes a number and a space.
+// Writes a space and a number.
 fn show(n: u64) {
-    io::print_decimal(STDOUT_FILENO, n);
     io::write_all(STDOUT_FILENO, b" ");
+    io::print_decimal(STDOUT_FILENO, n);
 }
 
 fn wide(n: u32) -> u64 {
@@ -27,8 +27,32 @@ fn show_all(xs: &[u32]) {
     line();
 }
 
+// A list under its name: its numbers, or how many they are where they are many.
+fn show_list(name: &[u8], xs: &[u32]) {
+    io::write_all(STDOUT_FILENO, name);
+    if 30 < xs.len() {
+        show(xs.len() as u64);
+        io::write_all(STDOUT_FILENO, b" numbers\n");
+        return;
+    }
+    show_all(xs);
+}
+
+// Three numbers under their names.
+fn show_three(names: &[u8], a: u64, b: u64, c: u64) {
+    io::write_all(STDOUT_FILENO, names);
+    show(a);
+    show(b);
+    show(c);
+    line();
+}
+
 // One row of the table. The buffer has 30 numbers, more than any row needs.
 fn run(arrivals: &[u32], deadlines: &[u32], operations: &[u32], reference: u32, p: u32, q: u32) {
+    show_list(b"arrivals:", arrivals);
+    show_list(b"deadlines:", deadlines);
+    show_list(b"operations:", operations);
+    show_three(b"reference, P, Q:", wide(reference), wide(p), wide(q));
     let mut buffer = [7u32; 30];
     let answer = planner::plan(
         arrivals,
@@ -38,11 +62,11 @@ fn run(arrivals: &[u32], deadlines: &[u32], operations: &[u32], reference: u32, 
         &mut buffer,
     );
     let reply = answers::in_numbers(answer);
-    show(wide(reply.number));
-    show(reply.place as u64);
-    show(reply.blocks as u64);
+    let place = reply.place as u64;
+    let blocks = reply.blocks as u64;
+    show_three(b"number, place, blocks:", wide(reply.number), place, blocks);
+    show_list(b"buffer:", &buffer);
     line();
-    show_all(&buffer);
 }
 
 // The starred rows, in 01's order.
