@@ -118,7 +118,7 @@ test-right ℓ (blocks rows) = test-critical ℓ P/Q (length rows) (λ k. getD r
 test-right ℓ (nine place) = test-nine ℓ place
 
 passes : Entry → Bool
-passes e = test-right (listOf (e .arrivals) (e .deadlines) (e .operations)) (e .result) .holds
+passes e = test-right (listOf (e .arrivals) (e .deadlines) (e .operations)) (e .result) .bit
 
 -- a test over a whole table
 abbrev every : (Entry → Bool) → List Entry → Bool

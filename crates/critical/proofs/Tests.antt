@@ -1,4 +1,4 @@
--- Tests that compute: a statement with a Bool that is true exactly when it holds, for each connective, and so for `Critical`.
+-- Tests that compute: a statement with a Bool that is true exactly when it bit, for each connective, and so for `Critical`.
 -- Assumes nothing.
 use Prim.Native.Nat.{ℕ, zero, suc, _+_, _*_, _≤_, _<_}
 use mathlib.Core.Path.{_≡_, refl, sym, subst}
@@ -13,23 +13,23 @@ use Rattle.critical.specs.Rows.{Row, pace, planOf, behind, sum, Busy, Cr
 
 -- a statement that can be tested
 pub record Test (P : Type 0) : Type 0 where
-  pub holds : Bool
-  pub sound : T holds → P
-  pub complete : P → T holds
+  pub bit : Bool
+  pub sound : T bit → P
+  pub complete : P → T bit
 
 -- the same test for an equivalent statement
 abbrev pub test-as : {P Q : Type 0} → (P → Q) → (Q → P) → Test P → Test Q
-test-as f g t = record { holds = t .holds; sound = λ h. f (t .sound h); complete = λ q. t .complete (g q) }
+test-as f g t = record { bit = t .bit; sound = λ h. f (t .sound h); complete = λ q. t .complete (g q) }
 
 -- ---- numbers
 abbrev pub test-le : (m n : ℕ) → Test (m ≤ n)
-test-le m n = record { holds = leb m n; sound = leb→le m n; complete = le→leb m n }
+test-le m n = record { bit = leb m n; sound = leb→le m n; complete = le→leb m n }
 
 abbrev pub test-lt : (m n : ℕ) → Test (m < n)
-test-lt m n = record { holds = ltb m n; sound = ltb→lt m n; complete = lt→ltb m n }
+test-lt m n = record { bit = ltb m n; sound = ltb→lt m n; complete = lt→ltb m n }
 
 abbrev pub test-eq : (m n : ℕ) → Test (m ≡ n)
-test-eq m n = record { holds = eqb m n; sound = eqb→eq m n; complete = λ e. subst (λ (k : ℕ). T (eqb m k)) e (eqb-refl m) }
+test-eq m n = record { bit = eqb m n; sound = eqb→eq m n; complete = λ e. subst (λ (k : ℕ). T (eqb m k)) e (eqb-refl m) }
 
 -- ---- fractions
 abbrev pub test-≼ : (f g : Fraction) → Test (f ≼ g)
@@ -56,9 +56,9 @@ and-both false b s t = s
 
 abbrev pub test-and : {P Q : Type 0} → Test P → Test Q → Test (P × Q)
 test-and p q = record {
-  holds = p .holds && q .holds;
-  sound = λ t. (p .sound (and-left (p .holds) (q .holds) t), q .sound (and-right (p .holds) (q .holds) t));
-  complete = λ h. and-both (p .holds) (q .holds) (p .complete (h .0)) (q .complete (h .1));
+  bit = p .bit && q .bit;
+  sound = λ t. (p .sound (and-left (p .bit) (q .bit) t), q .sound (and-right (p .bit) (q .bit) t));
+  complete = λ h. and-both (p .bit) (q .bit) (p .complete (h .0)) (q .complete (h .1));
 }
 
 abbrev pub only-if : Bool → Bool → Bool
@@ -75,16 +75,16 @@ only-if-complete false b f = tt
 
 abbrev pub test-if : {P Q : Type 0} → Test P → Test Q → Test (P → Q)
 test-if p q = record {
-  holds = only-if (p .holds) (q .holds);
-  sound = λ t h. q .sound (only-if-sound (p .holds) (q .holds) t (p .complete h));
-  complete = λ f. only-if-complete (p .holds) (q .holds) (λ s. q .complete (f (p .sound s)));
+  bit = only-if (p .bit) (q .bit);
+  sound = λ t h. q .sound (only-if-sound (p .bit) (q .bit) t (p .complete h));
+  complete = λ f. only-if-complete (p .bit) (q .bit) (λ s. q .complete (f (p .sound s)));
 }
 
 abbrev pub test-not : {P : Type 0} → Test P → Test (P → ⊥)
 test-not p = record {
-  holds = not (p .holds);
-  sound = λ t h. T-not (p .holds) t (p .complete h);
-  complete = λ f. not-T (p .holds) (λ s. f (p .sound s));
+  bit = not (p .bit);
+  sound = λ t h. T-not (p .bit) t (p .complete h);
+  complete = λ f. not-T (p .bit) (λ s. f (p .sound s));
 }
 
 -- every number below n
@@ -104,9 +104,9 @@ all-complete p (suc n) f = and-both (p n) (all p n) (f n (lt-suc-self n)) (all-c
 
 abbrev pub test-below : (n : ℕ) {P : ℕ → Type 0} → ((i : ℕ) → Test (P i)) → Test ((i : ℕ) → i < n → P i)
 test-below n f = record {
-  holds = all (λ i. f i .holds) n;
-  sound = λ t i h. f i .sound (all-sound (λ j. f j .holds) n t i h);
-  complete = λ g. all-complete (λ j. f j .holds) n (λ i h. f i .complete (g i h));
+  bit = all (λ i. f i .bit) n;
+  sound = λ t i h. f i .sound (all-sound (λ j. f j .bit) n t i h);
+  complete = λ g. all-complete (λ j. f j .bit) n (λ i h. f i .complete (g i h));
 }
 
 -- every number whose successor is below n: neighbours

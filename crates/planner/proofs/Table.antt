@@ -160,7 +160,7 @@ module _ (x : Input) where
   abbrev fit : (rows : List Row) → Test ((length (numbersIn rows) ≤ length (x .buffer)) × Critical ℓ f (length rows) (rowAt (after (planned rows) (x .buffer))))
   fit rows = test-and (test-le (length (numbersIn rows)) (length (x .buffer))) (test-critical ℓ f (length rows) (rowAt (after (planned rows) (x .buffer))))
 
-  -- the number is 9, and the pass at the fastest pace holds before the place and stops there
+  -- the number is 9, and the pass at the fastest pace is in time before the place and stops there
   abbrev stop : (number place : ℕ) → Test ((number ≡ 9) × ((place < ℓ .count) × (TimelyTo ℓ f place × (whole (ℓ .deadline place) ≺ finish ℓ (steady f) place))))
   stop number place =
       test-and (test-eq number 9)
@@ -172,15 +172,15 @@ module _ (x : Input) where
   same g number place = test-and (test-eq number (g .number)) (test-eq place (g .place))
 
   -- a result, held against what the rules before rule 9 give
-  holds : Passed form ⊎ Gives form → Result → Bool
-  holds (inl p) (planned rows) = fit rows .holds
-  holds (inl p) (refused number place) = stop number place .holds
-  holds (inr g) (planned rows) = false
-  holds (inr g) (refused number place) = same g number place .holds
+  meets : Passed form ⊎ Gives form → Result → Bool
+  meets (inl p) (planned rows) = fit rows .bit
+  meets (inl p) (refused number place) = stop number place .bit
+  meets (inr g) (planned rows) = false
+  meets (inr g) (refused number place) = same g number place .bit
 
-  -- what holds is what the promise gives
-  sound : (s : Passed form ⊎ Gives form) (r : Result) → T (holds s r) → Gets x r
-  unfolding holds
+  -- a result that meets it is what the promise gives
+  sound : (s : Passed form ⊎ Gives form) (r : Result) → T (meets s r) → Gets x r
+  unfolding meets
   sound (inl p) (planned rows) t =
       let s = fit rows .sound t in
       accepts ℓ f (x .buffer) form (length rows) (after (planned rows) (x .buffer)) p (written ℓ f rows (x .buffer) (s .0) (s .1))
@@ -195,8 +195,8 @@ module _ (x : Input) where
 
 -- the rules before rule 9 are decided by computing, and so is the rest
 test : Entry → Bool
-unfolding holds decided passed-or-given outcome Decided dec-below dec-equal dec-not dec-or dec-falls decides-none decides-overall decides-least least-or-none Falls ℕ-discrete decLt start holder behind sum whole over plus times later
-test e = holds (input e) (passed-or-given (decided (input e))) (e .result)
+unfolding meets decided passed-or-given outcome Decided dec-below dec-equal dec-not dec-or dec-falls decides-none decides-overall decides-least least-or-none Falls ℕ-discrete decLt start holder behind sum whole over plus times later
+test e = meets (input e) (passed-or-given (decided (input e))) (e .result)
 
 -- of a whole table
 every : List Entry → Bool
