@@ -31,8 +31,7 @@ pub extern "C" fn vakrhildo_plan(
 pub extern "C" fn vakrhildo_plan_roll(file: &[u8], rows: &mut [u32]) -> Reply
     ensures { λ r. ⌜ RollOutcome (now (file .entry)) (now (rows .entry)) (r .number) (r .place) (r .blocks) (now (rows .exit)) ⌝ }
 {
-    let answer = roll::plan_roll(file, rows);
-    answers::in_numbers(answer)
+    answers::in_numbers(roll::plan_roll(file, rows))
 }
 
 // Reads a roll: the refusal's number, the trailer's numbers, and where the part of the caller's bytes
