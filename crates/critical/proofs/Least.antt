@@ -7,7 +7,8 @@ use Rattle.fraction.proofs.Scale.{At, at-plus, at-less, at-le, at-eq, scaled, a
 use Rattle.fraction.proofs.Order.{≼-trans, ≼-plus-left}
 use Rattle.critical.specs.Reports.{Reports, Paces, Keeps, Working}
 use Rattle.critical.specs.Rows.{sum, CriticalPlan}
-use Rattle.critical.specs.Cost.{sumAt, slackAt}
+use Rattle.critical.specs.Cost.{sumAt}
+use Rattle.critical.proofs.Slack.{slackAt}
 use Rattle.critical.proofs.Numbers.{ours, strays, strong, same-pace}
 use Rattle.critical.proofs.Scaled.{AtAll, arrivals, deadlines, at-total, joints, in-time, at-stray}
 

@@ -1,4 +1,5 @@
 pub mod Numbers
+pub mod Slack
 pub mod Scaled
 pub mod Least
 pub mod Lines

@@ -7,7 +7,7 @@ use native.Mathlib.Omega.{arith}
 use native.Mathlib.Nat.{eq-or-lt-of-le, le-of-suc-le-suc, not-suc-le-zero, le-refl}
 use Rattle.fraction.specs.Fraction.{Fraction, _≼_, _≺_, _≈_, whole, plus, times, later}
 use Rattle.fraction.proofs.Order.{≼-refl, ≼-trans, ≈-refl, ≈-≼, ≈-sym, ≈-trans, ≺-≼, ≺-≼-absurd, split, plus-≼, plus-≈, times-≼, later-≼, later-left, later-right}
-use Rattle.critical.specs.Reports.{Reports, Paces, firstOf, Positive, start, finish, Plannable, FirstWithout}
+use Rattle.critical.specs.Reports.{Reports, Paces, firstOf, Positive, start, finish, Plannable, FirstWithout, steady}
 use Rattle.critical.proofs.Lines.{span, line}
 use Rattle.critical.proofs.Runs.{arrives, on-first, on-more, never-before}
 
@@ -47,10 +47,6 @@ shorter ℓ f n h p = (
 )
 
 -- ---- the pass at the fastest pace
--- every report at one pace
-abbrev pub steady : Fraction → Paces
-steady f i = f
-
 -- report i is timely: at the fastest pace throughout, it finishes in time
 abbrev pub Timely : Reports → Fraction → ℕ → Type 0
 Timely ℓ f i = finish ℓ (steady f) i ≼ whole (ℓ .deadline i)

@@ -12,7 +12,8 @@ use Rattle.fraction.specs.Fraction.{Fraction, _≼_, _≺_, _≈_, whole}
 use Rattle.fraction.proofs.Scale.{cases, At, at-whole, at-times, at-plus, at-less, at-later, at-le, at-lt, le-at, eq-at, Fits, scaled, at-scaled}
 use Rattle.critical.specs.Reports.{Reports, Paces, start, finish, Keeps}
 use Rattle.critical.specs.Rows.{sum, Busy, CriticalPlan}
-use Rattle.critical.specs.Cost.{total, stray}
+use Rattle.critical.specs.Cost.{total}
+use Rattle.critical.proofs.Slack.{stray}
 use Rattle.critical.proofs.Numbers.{starts, ends, Joints, InTime}
 
 -- the first n amounts are whole at scale M

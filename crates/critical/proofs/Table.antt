@@ -7,9 +7,9 @@ use mathlib.Core.List.{List, [], _∷_}
 use lib.Dec.{T}
 use lib.ListN.{length, getD}
 use Rattle.fraction.specs.Fraction.{Fraction, whole, over, plus, times, later}
-use Rattle.critical.specs.Reports.{Reports, listOf, Positive, start, finish, FirstWithout}
+use Rattle.critical.specs.Reports.{Reports, listOf, Positive, start, finish, FirstWithout, steady}
 use Rattle.critical.specs.Rows.{Row, holder, behind, sum, Critical}
-use Rattle.critical.proofs.Room.{steady, stops-first, first-timely, first-stops}
+use Rattle.critical.proofs.Room.{stops-first, first-timely, first-stops}
 use Rattle.critical.proofs.Tests.{Test, test-as, test-and, test-not, test-lt, test-≼, test-≺, test-below, test-critical, and-left, and-right}
 
 -- what a list gets: blocks, or the refusal 9 with its place
@@ -68,7 +68,8 @@ starred =
     ∷ entry (0 ∷ 0 ∷ 12 ∷ []) (4 ∷ 20 ∷ 16 ∷ []) (2 ∷ 2 ∷ 2 ∷ []) (blocks (block 0 0 0 4 2 ∷ block 1 1 4 12 2 ∷ block 2 2 12 16 2 ∷ []))
     ∷ []
 
--- Answers that are wrong by one condition alone: each meets all the others, so none of them can be left out of `Critical`.
+-- Answers that are wrong by one condition alone: each meets all the others, so none of these conditions can be left out of `Critical`. The one condition of its fifteen that no answer
+-- here breaks alone is that paces are positive: it follows from `no-faster` where P/Q is positive (`positive-up`), and is there for rivals, which know no P/Q.
 pub wrong : List Entry
 wrong =
     -- a row without reports between two others

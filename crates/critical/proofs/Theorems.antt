@@ -8,11 +8,12 @@ use native.Mathlib.Nat.{eq-or-lt-of-le, mul-pos}
 use Rattle.fraction.specs.Fraction.{Fraction, _≼_, _≺_, _≈_, whole, plus, times}
 use Rattle.fraction.proofs.Scale.{cases}
 use Rattle.fraction.proofs.Order.{≺-≼-absurd, ≼-≺-trans, ≈-≼, ≼-trans, whole-≼, whole-≺, ≺-plus}
-use Rattle.critical.specs.Reports.{Reports, Paces, firstOf, Working, Positive, start, finish, Keeps, Allowed, Plannable, FirstWithout}
+use Rattle.critical.specs.Reports.{Reports, Paces, firstOf, Working, Positive, steady, start, finish, Keeps, Allowed, Plannable, FirstWithout}
 use Rattle.critical.specs.Rows.{Row, pace, planOf, behind, Busy, CriticalPlan, Critical}
-use Rattle.critical.specs.Cost.{sumAt, slackAt, Cost, Flatter, bill, NoHigher}
+use Rattle.critical.specs.Cost.{sumAt, Cost, Flatter, bill, NoHigher}
+use Rattle.critical.proofs.Slack.{slackAt}
 use Rattle.critical.proofs.Runs.{arrives}
-use Rattle.critical.proofs.Room.{steady, TimelyTo, Roomy, plan-timely, timely-plan, stops-first, first-timely, first-stops, runs, shorter, timely-roomy, roomy-timely}
+use Rattle.critical.proofs.Room.{TimelyTo, Roomy, plan-timely, timely-plan, stops-first, first-timely, first-stops, runs, shorter, timely-roomy, roomy-timely}
 use Rattle.critical.proofs.Search.{Stretch, Found, Best, Leaves, _≻_, _≽_, Ready, Scan, way, floor, high, low, rowOf}
 use Rattle.critical.proofs.Cover.{few-rows}
 use Rattle.critical.proofs.Chain.{Chain, Link}

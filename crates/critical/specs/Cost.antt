@@ -1,9 +1,7 @@
 -- The sum at a threshold pace, and costs that fall in ever flatter straight pieces (demand 3).
 -- Assumes nothing.
-use Prim.Native.Nat.{ℕ, zero, suc, _*_}
+use Prim.Native.Nat.{ℕ, zero, suc}
 use mathlib.Core.List.{List, [], _∷_}
-use mathlib.Core.Bool.{cond}
-use lib.Dec.{ltb}
 use Rattle.fraction.specs.Fraction.{Fraction, _≼_, whole, plus, times, less, product}
 use Rattle.critical.specs.Reports.{Reports, Paces}
 
@@ -15,14 +13,6 @@ total ℓ g (suc n) = plus (total ℓ g n) (times (ℓ .operations n) (g n))
 -- The sum at threshold c: operations times shortfall, which is c less the pace, nil where the pace is not below c.
 abbrev pub sumAt : Reports → Fraction → Paces → Fraction
 sumAt ℓ c T = total ℓ (λ i. less c (T i)) (ℓ .count)
-
--- What a rival's pace q strays to the wrong side of threshold c: above it where ours, p, is below, below it where ours is not.
-abbrev pub stray : Fraction → Fraction → Fraction → Fraction
-stray c p q = cond (ltb (p .num * c .den) (c .num * p .den)) (less q c) (less c q)
-
--- The sum, over the reports, of operations times what rival U strays from threshold c beside our plan T.
-abbrev pub slackAt : Reports → Fraction → Paces → Paces → Fraction
-slackAt ℓ c T U = total ℓ (λ i. stray c (T i) (U i)) (ℓ .count)
 
 -- A straight piece of a cost: it reaches up to a pace, and over it the cost falls by so much for each unit of pace.
 pub record Piece : Type 0 where

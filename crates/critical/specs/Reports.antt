@@ -38,6 +38,10 @@ Positive f = 0 < f .num
 abbrev pub Paces : Type 0
 Paces = ℕ → Fraction
 
+-- Every report at one pace.
+abbrev pub steady : Fraction → Paces
+steady f i = f
+
 -- Report i starts at the later of its arrival and the finish of report i − 1; the first starts at its arrival.
 unfoldable pub start : Reports → Paces → ℕ → Fraction
 start ℓ T zero = whole (ℓ .arrival zero)

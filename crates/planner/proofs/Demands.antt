@@ -6,27 +6,22 @@ use mathlib.Core.Path.{_≡_}
 use mathlib.Core.List.{List, [], _∷_, _++_}
 use mathlib.Core.Logic.{_↔_, inl, inr}
 use native.Mathlib.Omega.{arith}
-use Rattle.trials.specs.Rules.{Refused, Accepted}
+use Rattle.trials.specs.Rules.{Refused}
 use Rattle.trials.proofs.Passing.{Passed, Quiet, finding}
 use Rattle.trials.proofs.Numbers.{refused-behind, by-another-rule, others}
 use Rattle.fraction.specs.Fraction.{Fraction, _≼_, _≺_, whole}
-use Rattle.critical.specs.Reports.{Reports, Paces, Positive, finish, Keeps, Allowed, Plannable, FirstWithout}
-use Rattle.critical.specs.Rows.{Row, planOf, Critical}
+use Rattle.critical.specs.Reports.{Reports, Paces, Positive, finish, Keeps, Allowed, Plannable, FirstWithout, steady}
+use Rattle.critical.specs.Rows.{Row, Critical}
 use Rattle.critical.specs.Cost.{sumAt, Cost, Flatter, bill, NoHigher}
-use Rattle.critical.proofs.Room.{steady}
 use Rattle.critical.proofs.Theorems.{least-sum, least-cost, one-list-of-rows, first-failure, not-both}
 use Rattle.rules.specs.Offsets.{Input, reportsOf, fastestOf}
 use Rattle.rules.specs.Rules.{paceRule, overallRules, formRules, planRule, planRules}
-use Rattle.planner.specs.Outcome.{rowAt, Outcome, PlanOutcome}
+use Rattle.planner.specs.Outcome.{rowAt, planIn, WellFormed, Outcome, PlanOutcome}
 use Rattle.rules.proofs.Leaving.{good-pace}
 use Rattle.rules.proofs.Table.{works}
 use Rattle.planner.proofs.Outcomes.{positive}
 use Rattle.planner.proofs.OneResult as One
 use Rattle.planner.proofs.SomeResult as Some
-
--- The plan that the rows in the buffer stand for: each report at its row's pace.
-abbrev pub planIn : ℕ → List ℕ → Paces
-planIn blocks after = planOf blocks (rowAt after)
 
 -- ---- Demand 1. "Every input gets a plan or one numbered refusal; nothing is undefined."
 
@@ -68,10 +63,6 @@ pub and-no-others :
 unfolding Outcome
 and-no-others x place blocks after fastest m rows o c =
     one-list-of-rows (reportsOf x) (fastestOf x) fastest blocks m (rowAt after) rows (works x (record { accepted = o .0 })) (o .2 .rows) c
-
--- A well-formed list with room: none of the rules 1 to 8 is given.
-abbrev pub WellFormed : Input → Type 0
-WellFormed x = Accepted (overallRules x ++ formRules (reportsOf x))
 
 -- the last rule is rule 9
 refused-by-nine : (ℓ : Reports) (f : Fraction) (number place : ℕ) → Refused (planRule ℓ f ∷ []) number place → (number ≡ 9) × FirstWithout ℓ f place

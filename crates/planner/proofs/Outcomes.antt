@@ -17,18 +17,11 @@ use Rattle.critical.specs.Rows.{planOf}
 use Rattle.critical.proofs.Theorems.{room-decides, not-both}
 use Rattle.rules.specs.Offsets.{offset, offsetsOf, paceOf}
 use Rattle.rules.specs.Rules.{planRule, reportRules}
-use Rattle.planner.specs.Outcome.{rowAt, Outcome, Written}
+use Rattle.planner.specs.Outcome.{rowAt, RefusedBy, Outcome, Written}
 use Rattle.rules.specs.Leaves.{Sized, Paced}
 use Rattle.planner.specs.Inside.{PassEnds, BlocksIn}
 use Rattle.rules.specs.declared.Roll.{Roll}
 use Rattle.lists.proofs.Filling.{length-map}
-
--- A refusal by some of the rules: it has a number, there are no blocks, and the buffer is as it was.
-pub record RefusedBy (rules : List Rule) (before : List ℕ) (number place blocks : ℕ) (after : List ℕ) : Type 0 where
-  pub numbered : 0 < number
-  pub refused : Refused rules number place
-  pub no-blocks : blocks ≡ 0
-  pub untouched : after ≡ before
 
 module _ (ℓ : Reports) (f : Fraction) (before : List ℕ) where
   refused : (rules : List Rule) (number place : ℕ) → 0 < number → Refused rules number place → Outcome rules ℓ f before number place 0 before

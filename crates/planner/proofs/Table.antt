@@ -16,9 +16,9 @@ use Rattle.trials.specs.Rules.{Rule, Falls}
 use Rattle.trials.proofs.Passing.{Passed, Quiet, finding}
 use Rattle.trials.proofs.Deciding.{Gives, Decided, dec-below, dec-equal, dec-not, dec-or, dec-falls, decides-none, decides-overall, decides-least, least-or-none, outcome, passed-or-given}
 use Rattle.fraction.specs.Fraction.{Fraction, _≺_, whole, over, plus, times, later}
-use Rattle.critical.specs.Reports.{Reports, start, finish}
+use Rattle.critical.specs.Reports.{Reports, start, finish, steady}
 use Rattle.critical.specs.Rows.{Row, holder, behind, sum, Critical}
-use Rattle.critical.proofs.Room.{steady, TimelyTo, stops-first}
+use Rattle.critical.proofs.Room.{TimelyTo, stops-first}
 use Rattle.critical.proofs.Tests.{Test, test-and, test-le, test-lt, test-eq, test-≼, test-≺, test-below, test-critical, and-left, and-right}
 use Rattle.critical.proofs.Table.{block}
 use Rattle.critical.proofs.Table as Definitions

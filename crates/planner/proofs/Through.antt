@@ -7,10 +7,10 @@ use native.Mathlib.Nat.{mul-le-mul, lt-suc-self}
 use native.Mathlib.Numerals.{add-one}
 use Rattle.fraction.specs.Fraction.{over}
 use Rattle.fraction.proofs.Scale.{At, at-whole, at-over, at-le, at-lt}
-use Rattle.critical.specs.Reports.{Reports, Positive, finish, Plannable, FirstWithout}
+use Rattle.critical.specs.Reports.{Reports, Positive, finish, Plannable, FirstWithout, steady}
 use Rattle.critical.proofs.Numbers.{starts, ends}
 use Rattle.critical.proofs.Scaled.{arrivals, at-finish}
-use Rattle.critical.proofs.Room.{steady, TimelyTo, timely-more, timely-plan, stops-first}
+use Rattle.critical.proofs.Room.{TimelyTo, timely-more, timely-plan, stops-first}
 
 -- Q times the finish of the report before i, nil before the first
 unfoldable pub through : Reports → ℕ → ℕ → ℕ → ℕ

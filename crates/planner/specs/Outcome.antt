@@ -1,16 +1,16 @@
 -- What the planner gives (01, "What the planner takes and gives").
 -- Assumes nothing.
-use Prim.Native.Nat.{ℕ, zero, suc, _+_, _*_, _≤_}
+use Prim.Native.Nat.{ℕ, zero, suc, _+_, _*_, _≤_, _<_}
 use mathlib.Core.Path.{_≡_}
-use mathlib.Core.List.{List}
+use mathlib.Core.List.{List, _++_}
 use lib.ListN.{length, getD}
 use Rattle.fraction.specs.Fraction.{Fraction}
-use Rattle.critical.specs.Reports.{Reports}
-use Rattle.critical.specs.Rows.{Row, Critical}
+use Rattle.critical.specs.Reports.{Reports, Paces}
+use Rattle.critical.specs.Rows.{Row, planOf, Critical}
 use Rattle.rules.specs.Offsets.{Input, reportsOf, fastestOf}
 use Rattle.answers.specs.Numbers.{width}
 use Rattle.trials.specs.Rules.{Rule, Refused, Accepted}
-use Rattle.rules.specs.Rules.{planRules}
+use Rattle.rules.specs.Rules.{overallRules, formRules, planRules}
 
 -- Number j of row k of a buffer.
 abbrev pub numberAt : List ℕ → ℕ → ℕ → ℕ
@@ -41,3 +41,19 @@ Outcome rules ℓ fastest before (suc number) place blocks after = Refused rules
 abbrev pub PlanOutcome : Input → ℕ → ℕ → ℕ → List ℕ → Type 0
 PlanOutcome x number place blocks after =
     Outcome (planRules x) (reportsOf x) (fastestOf x) (x .buffer) number place blocks after
+
+-- ---- words in which the demands are stated
+-- The plan that the rows in a buffer stand for: each report at its row's pace.
+abbrev pub planIn : ℕ → List ℕ → Paces
+planIn blocks after = planOf blocks (rowAt after)
+
+-- A well-formed list with room: none of the rules 1 to 8 is given.
+abbrev pub WellFormed : Input → Type 0
+WellFormed x = Accepted (overallRules x ++ formRules (reportsOf x))
+
+-- A refusal by some of the rules: it has a number, there are no blocks, and the buffer is as it was.
+pub record RefusedBy (rules : List Rule) (before : List ℕ) (number place blocks : ℕ) (after : List ℕ) : Type 0 where
+  pub numbered : 0 < number
+  pub refused : Refused rules number place
+  pub no-blocks : blocks ≡ 0
+  pub untouched : after ≡ before

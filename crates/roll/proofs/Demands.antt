@@ -4,24 +4,22 @@
 -- Nothing is assumed.
 use Prim.Native.Nat.{ℕ, _<_}
 use mathlib.Core.Path.{_≡_}
-use mathlib.Core.List.{List, _∷_}
+use mathlib.Core.List.{List}
 use mathlib.Core.Logic.{_⊎_, _↔_, ⊎-elim}
 use native.Mathlib.Omega.{arith}
-use Rattle.trials.specs.Rules.{Accepted, Refused}
+use Rattle.trials.specs.Rules.{Accepted}
 use Rattle.trials.proofs.Passing.{Passed}
 use Rattle.trials.proofs.Single.{not-refused}
 use Rattle.trials.proofs.Numbers.{Never, never-none, never-other}
 use Rattle.fraction.specs.Fraction.{Fraction, _≼_, _≺_, whole}
-use Rattle.critical.specs.Reports.{Reports, Paces, finish, Keeps, Allowed, Plannable, FirstWithout}
+use Rattle.critical.specs.Reports.{Reports, Paces, finish, Keeps, Allowed, Plannable, FirstWithout, steady}
 use Rattle.critical.specs.Rows.{Critical}
 use Rattle.critical.specs.Cost.{sumAt, Cost, Flatter, bill, NoHigher}
-use Rattle.critical.proofs.Room.{steady}
 use Rattle.rules.specs.Offsets.{Input, reportsOf, fastestOf}
 use Rattle.rules.specs.Rules.{planRules}
-use Rattle.planner.specs.Outcome.{rowAt, PlanOutcome}
-use Rattle.planner.proofs.Outcomes.{RefusedBy, by-either}
+use Rattle.planner.specs.Outcome.{rowAt, planIn, WellFormed, RefusedBy, PlanOutcome}
+use Rattle.planner.proofs.Outcomes.{by-either}
 use Rattle.planner.proofs.Demands as Of
-use Rattle.planner.proofs.Demands.{planIn, WellFormed}
 use Rattle.roll.specs.Format.{fileRules, inputOf, RollOutcome}
 use Rattle.roll.proofs.OneResult as One
 

@@ -13,23 +13,17 @@ use Rattle.answers.specs.Numbers.{width}
 use Rattle.trials.proofs.Passing.{Passed}
 use Rattle.trials.proofs.Numbers.{Never, never-none, never-other}
 use Rattle.fraction.specs.Fraction.{Fraction, _≼_, _≺_, whole}
-use Rattle.critical.specs.Reports.{Reports, Paces, finish, Keeps, Allowed}
+use Rattle.critical.specs.Reports.{Reports, Paces, finish, Keeps, Allowed, steady}
 use Rattle.critical.specs.Cost.{sumAt}
-use Rattle.critical.proofs.Room.{steady}
 use Rattle.rules.specs.Offsets.{Input, reportsOf, fastestOf}
-use Rattle.planner.proofs.Outcomes.{RefusedBy, by-either}
-use Rattle.planner.proofs.Demands.{planIn}
+use Rattle.planner.specs.Outcome.{planIn, RefusedBy}
+use Rattle.planner.proofs.Outcomes.{by-either}
 use Rattle.roll.specs.Format.{inputOf, rollRules, RollOutcome}
 use Rattle.roll.proofs.Demands as Of
 use Rattle.text.specs.Text.{Puts, firstLine, rowLines, planText, textRoom}
 use Rattle.text.proofs.FirstLine.{one-first-line}
-use Rattle.rolltext.specs.Program.{longRule, ProgramOutcome, Says}
+use Rattle.rolltext.specs.Program.{longRule, ProgramOutcome, Says, Begins}
 use Rattle.rolltext.proofs.Buffers.{said-in-full}
-
--- Text begins with the line `plan`, number, place, block count.
-pub record Begins (text : List ℕ) (number place blocks : ℕ) : Type 0 where
-  pub rest : List ℕ
-  pub is : text ≡ firstLine number place blocks ++ rest
 
 -- text put at the front of a buffer is what stands there
 put-front : {before text after : List ℕ} {r : ℕ} → Puts before 0 text r after → take r after ≡ text

@@ -1,13 +1,14 @@
 -- What the program says of its input (01, "The roll").
 -- Assumes nothing.
 use Prim.Native.Nat.{ℕ, _<_}
-use mathlib.Core.List.{List, _∷_}
+use mathlib.Core.Path.{_≡_}
+use mathlib.Core.List.{List, _∷_, _++_}
 use lib.ListN.{length}
 use Rattle.trials.specs.Rules.{Rule, rule, Overall}
 use Rattle.rules.specs.Offsets.{Input, reportsOf, fastestOf}
 use Rattle.planner.specs.Outcome.{Outcome}
 use Rattle.roll.specs.Format.{inputOf, rollRules}
-use Rattle.text.specs.Text.{TextIs}
+use Rattle.text.specs.Text.{firstLine, TextIs}
 
 -- The program adds 14: input longer than 65,536 bytes.
 abbrev pub longRule : List ℕ → Rule
@@ -29,3 +30,8 @@ pub record Says (s buffer out : List ℕ) (r : ℕ) (after text : List ℕ) : Ty
   pub blocks : ℕ
   pub outcome : ProgramOutcome s buffer number place blocks after
   pub said : TextIs number place blocks after out r text
+
+-- Text begins with the line `plan`, number, place, block count.
+pub record Begins (text : List ℕ) (number place blocks : ℕ) : Type 0 where
+  pub rest : List ℕ
+  pub is : text ≡ firstLine number place blocks ++ rest
