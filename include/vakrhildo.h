@@ -1,6 +1,6 @@
-/* Vakrhildo for C: the proved planner. Link with target/staticlib/libvakrhildo.a, which
-   `rt staticlib vakrhildo` writes (x86-64 Linux). Both functions answer every input; they use no
-   heap, no global state, nothing of another library but memset, and at most 21 KiB of stack. */
+/* Vakrhildo for C: the proved planner and the roll's reader. Link with target/staticlib/libvakrhildo.a,
+   which `rt staticlib vakrhildo` writes (x86-64 Linux). All three functions answer every input; they
+   use no heap, no global state, nothing of another library but memset, and at most 21 KiB of stack. */
 #ifndef VAKRHILDO_H
 #define VAKRHILDO_H
 
@@ -56,6 +56,25 @@ vakrhildo_reply vakrhildo_plan(const uint32_t *arrivals, size_t arrivals_length,
    trailer of 16 that points back; all little-endian. */
 vakrhildo_reply vakrhildo_plan_roll(const uint8_t *roll, size_t roll_length,
                                     uint32_t *rows, size_t rows_length);
+
+/* What is read of a roll, in numbers.
+   number: 0, or the refusal 10 to 13; on a refusal all the others are 0.
+   count, reference, p, q: the trailer's.
+   at, size: the part of the roll's bytes that holds the records: size = 12 * count bytes from
+   roll + at on, up to the trailer. */
+typedef struct {
+    uint32_t number;
+    uint32_t count;
+    uint32_t reference;
+    uint32_t p;
+    uint32_t q;
+    size_t at;
+    size_t size;
+} vakrhildo_reading;
+
+/* Reads a roll: its trailer, and where its records stand. No byte is copied. Rules 1 to 9 are not
+   tried, so the count may be up to 65,535, and P and Q may be 0. */
+vakrhildo_reading vakrhildo_read(const uint8_t *roll, size_t roll_length);
 
 #ifdef __cplusplus
 }

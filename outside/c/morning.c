@@ -1,4 +1,4 @@
-/* Plans one crowded morning of three reports, then a roll that is read from standard input. */
+/* Plans one crowded morning of three reports, then reads and plans a roll that comes on standard input. */
 #include <stdio.h>
 #include "vakrhildo.h"
 
@@ -20,6 +20,8 @@ int main(void)
     show(vakrhildo_plan(arrivals, 3, deadlines, 3, operations, 3, 0, 1, 1, rows, sizeof rows / sizeof *rows));
     show(vakrhildo_plan(arrivals, 3, deadlines, 2, operations, 3, 0, 1, 1, rows, sizeof rows / sizeof *rows));
     size_t length = fread(roll, 1, sizeof roll, stdin);
+    vakrhildo_reading reading = vakrhildo_read(roll, length);
+    printf("number %u reports %u: %zu bytes from byte %zu on\n", reading.number, reading.count, reading.size, reading.at);
     show(vakrhildo_plan_roll(roll, length, rows, sizeof rows / sizeof *rows));
     return 0;
 }

@@ -2,6 +2,7 @@
 //! which it can be run alone (`compare --case LINE`).
 
 use std::fmt::Write;
+use vakrhildo::{Numbers, Reply};
 
 /// What a planner is handed; `room` is the length of the row buffer.
 #[derive(Clone, Debug, PartialEq, Eq)]
@@ -22,28 +23,12 @@ pub enum Case {
     Program { bytes: Vec<u8> },
 }
 
-/// What a planner gives back: number, place and block count.
-pub type Reply = (u32, u64, usize);
-
-/// A planner of lists and one of rolls: the rows go to the front of the buffer.
-pub trait Planner {
-    fn plan(&self, list: &List, rows: &mut [u32]) -> Reply;
-    fn plan_roll(&self, roll: &[u8], rows: &mut [u32]) -> Reply;
-}
-
-/// The proved planner.
-pub struct Proved;
-
-fn reply(answer: Result<usize, vakrhildo::Refusal>) -> Reply {
-    match answer {
-        Ok(blocks) => (0, 0, blocks),
-        Err(refusal) => (refusal.number, refusal.place as u64, 0),
-    }
-}
-
-impl Planner for Proved {
-    fn plan(&self, l: &List, rows: &mut [u32]) -> Reply {
-        reply(vakrhildo::plan(
+/// What is compared: the library's three functions, with the numbers that they give back as they came;
+/// the rows go to the front of the buffer. Where nothing else is said they are the proved ones. The
+/// lists and the roll are lent as if they could be changed, so that a wrong one can do so.
+pub trait Library {
+    fn plan(&self, l: &mut List, rows: &mut [u32]) -> Reply {
+        vakrhildo::plan_raw(
             &l.arrivals,
             &l.deadlines,
             &l.operations,
@@ -51,13 +36,22 @@ impl Planner for Proved {
             l.p,
             l.q,
             rows,
-        ))
+        )
     }
 
-    fn plan_roll(&self, roll: &[u8], rows: &mut [u32]) -> Reply {
-        reply(vakrhildo::plan_roll(roll, rows))
+    fn plan_roll(&self, roll: &mut [u8], rows: &mut [u32]) -> Reply {
+        vakrhildo::plan_roll_raw(roll, rows)
+    }
+
+    fn read(&self, roll: &mut [u8]) -> Numbers {
+        vakrhildo::read_raw(roll)
     }
 }
+
+/// The proved library.
+pub struct Proved;
+
+impl Library for Proved {}
 
 fn numbers(list: &[u32]) -> String {
     list.iter()

@@ -1,17 +1,21 @@
-//! Compares one case with the independent program: the three numbers, every number of the row buffer
-//! and a margin on both sides of it, and, where a plan comes back, the plan with the definitions.
+//! Compares one case with the independent program: the three numbers as they came, every number of
+//! the row buffer and a margin on both sides of it, and, where a plan comes back, the plan with the
+//! definitions; for a roll also the seven numbers of the reader. What was lent to be read has to be as
+//! it was.
 
-use crate::case::{Case, List, Planner, Reply};
+use crate::case::{Case, Library, List};
 use crate::tally::Tally;
 use oracle::{Answer, Reports};
+use std::hint::black_box;
 use std::io::Write;
 use std::path::Path;
 use std::process::{Command, Stdio};
+use vakrhildo::{Numbers, Reply};
 
 /// Numbers before and behind the row buffer that must stay as they are.
 const MARGIN: usize = 8;
 
-/// How a planner's answers are held against the definitions.
+/// How the library's answers are held against the definitions.
 #[derive(Clone, Copy)]
 pub struct Depth {
     /// Properties 1 to 4 and the deadlines.
@@ -45,11 +49,13 @@ fn run(room: usize, plan: impl FnOnce(&mut [u32]) -> Reply) -> (Reply, Vec<u32>)
 
 /// Whether a reply and the memory behind it are what the answer says.
 fn same(answer: &Answer, reply: Reply, memory: &[u32]) -> Result<(), String> {
-    let wanted = (answer.number, answer.place, answer.rows.len());
+    let wanted = Reply {
+        number: answer.number,
+        place: answer.place as usize,
+        blocks: answer.rows.len(),
+    };
     if reply != wanted {
-        return Err(format!(
-            "number, place and blocks are {reply:?}, wanted {wanted:?}"
-        ));
+        return Err(format!("answered {reply:?}, wanted {wanted:?}"));
     }
     let rows: Vec<u32> = answer.rows.concat();
     for (i, &found) in memory.iter().enumerate() {
@@ -63,6 +69,16 @@ fn same(answer: &Answer, reply: Reply, memory: &[u32]) -> Result<(), String> {
         }
     }
     Ok(())
+}
+
+/// Whether what was lent to be read is as it was. The library has a pointer to it, so the compiler is
+/// not to conclude that it must be.
+fn untouched<T: PartialEq>(lent: T, own: T) -> Result<(), String> {
+    if black_box(lent) == own {
+        Ok(())
+    } else {
+        Err("what was lent to be read has changed".into())
+    }
 }
 
 /// An accepted answer, held against the definitions.
@@ -98,7 +114,7 @@ fn list_of(l: &List) -> oracle::List<'_> {
 }
 
 fn judge_list(
-    planner: &dyn Planner,
+    library: &dyn Library,
     l: &List,
     depth: Depth,
     tally: &mut Tally,
@@ -111,16 +127,48 @@ fn judge_list(
             .any(|&reading| reading < l.reference),
     );
     let answer = oracle::answer_list(&list);
-    let (reply, memory) = run(l.room, |rows| planner.plan(l, rows));
+    let mut lent = l.clone();
+    let (reply, memory) = run(l.room, |rows| library.plan(&mut lent, rows));
     same(&answer, reply, &memory)?;
+    untouched(&lent, l)?;
     defined(&oracle::reports(&list), &answer, depth, tally)?;
     Ok(answer.number)
 }
 
-fn judge_roll(planner: &dyn Planner, bytes: &[u8], room: usize) -> Result<u32, String> {
+/// The reader's numbers of a roll.
+fn judge_reading(library: &dyn Library, bytes: &[u8], tally: &mut Tally) -> Result<(), String> {
+    let reading = oracle::read_roll(bytes);
+    let wanted = Numbers {
+        number: reading.number,
+        count: reading.count,
+        reference: reading.reference,
+        p: reading.p,
+        q: reading.q,
+        at: reading.at,
+        size: reading.size,
+    };
+    let mut lent = bytes.to_vec();
+    let numbers = library.read(&mut lent);
+    if numbers != wanted {
+        return Err(format!("read {numbers:?}, wanted {wanted:?}"));
+    }
+    untouched(&lent[..], bytes)?;
+    tally.readings[reading.number as usize] += 1;
+    Ok(())
+}
+
+fn judge_roll(
+    library: &dyn Library,
+    bytes: &[u8],
+    room: usize,
+    tally: &mut Tally,
+) -> Result<u32, String> {
+    judge_reading(library, bytes, tally)?;
     let answer = oracle::answer_roll(bytes, room);
-    let (reply, memory) = run(room, |rows| planner.plan_roll(bytes, rows));
+    let mut lent = bytes.to_vec();
+    let (reply, memory) = run(room, |rows| library.plan_roll(&mut lent, rows));
     same(&answer, reply, &memory)?;
+    untouched(&lent[..], bytes)?;
     Ok(answer.number)
 }
 
@@ -143,7 +191,13 @@ fn rollplan(program: &Path, input: &[u8]) -> Result<Vec<u8>, String> {
     Ok(child.wait_with_output().map_err(failed)?.stdout)
 }
 
-fn judge_program(program: &Path, input: &[u8]) -> Result<u32, String> {
+fn judge_program(
+    library: &dyn Library,
+    program: &Path,
+    input: &[u8],
+    tally: &mut Tally,
+) -> Result<u32, String> {
+    judge_reading(library, input, tally)?;
     let wanted = oracle::answer_program(input);
     let found = rollplan(program, input)?;
     if found != wanted {
@@ -163,16 +217,16 @@ fn judge_program(program: &Path, input: &[u8]) -> Result<u32, String> {
 
 /// Compares one case, and counts it. An error says what differs, and how to run the case alone.
 pub fn judge(
-    planner: &dyn Planner,
+    library: &dyn Library,
     program: &Path,
     case: &Case,
     depth: Depth,
     tally: &mut Tally,
 ) -> Result<(), String> {
     let judged = match case {
-        Case::List(l) => judge_list(planner, l, depth, tally),
-        Case::Roll { bytes, room } => judge_roll(planner, bytes, *room),
-        Case::Program { bytes } => judge_program(program, bytes),
+        Case::List(l) => judge_list(library, l, depth, tally),
+        Case::Roll { bytes, room } => judge_roll(library, bytes, *room, tally),
+        Case::Program { bytes } => judge_program(library, program, bytes, tally),
     };
     let number =
         judged.map_err(|what| format!("{what}\nrun it alone: compare --case {}", case.line()))?;

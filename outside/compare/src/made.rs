@@ -1,8 +1,12 @@
 //! Makes the cases: 01's table, every small list, random lists small and large, near the line between
-//! accepted and refused, lists at the edges of each rule, rolls whole and damaged, inputs of the program.
+//! accepted and refused, lists at the edges of each rule; in `roll`, rolls and inputs of the program.
+
+mod roll;
+
+pub use roll::{damaged_sample, inputs, long_rolls, rolls};
 
 use crate::case::{Case, List};
-use crate::judge::{Depth, ANSWER, PROPERTIES};
+use crate::judge::{Depth, PROPERTIES};
 
 /// Takes a group's name, a case, and how deep it is looked at.
 pub type Take<'a> = dyn FnMut(&'static str, Case, Depth) -> Result<(), String> + 'a;
@@ -251,142 +255,6 @@ pub fn edges(take: &mut Take, dice: &mut Dice, times: u64) -> Done {
             _ => {}
         }
         take("lists at the edges of the rules", Case::List(l), PROPERTIES)?;
-    }
-    Ok(())
-}
-
-/// The roll of a list, behind a preface.
-fn roll_of(l: &List, preface: &[u8]) -> Vec<u8> {
-    let mut bytes = preface.to_vec();
-    for i in 0..l.arrivals.len() {
-        for number in [l.arrivals[i], l.deadlines[i], l.operations[i]] {
-            bytes.extend(number.to_le_bytes());
-        }
-    }
-    bytes.extend((16 + 12 * l.arrivals.len() as u32).to_le_bytes());
-    bytes.extend(l.reference.to_le_bytes());
-    for number in [l.arrivals.len() as u32, l.p, l.q] {
-        bytes.extend((number as u16).to_le_bytes());
-    }
-    bytes.extend(b"AQ");
-    bytes
-}
-
-fn random_roll(dice: &mut Dice) -> (Vec<u8>, usize) {
-    let n = dice.below(14) as usize;
-    let numbers = 1 + dice.below(60);
-    let l = near(dice, n, numbers, 40);
-    let preface: Vec<u8> = (0..dice.below(40)).map(|_| dice.roll() as u8).collect();
-    (roll_of(&l, &preface), n)
-}
-
-/// Damages a roll: cut at either end, bits flipped, trailer numbers replaced, the mark turned, bytes added.
-fn damage(dice: &mut Dice, bytes: &mut Vec<u8>) {
-    let n = bytes.len();
-    match dice.below(8) {
-        0 => bytes.truncate(dice.below(n as u64 + 1) as usize),
-        1 => drop(bytes.drain(..dice.below(n as u64 + 1) as usize)),
-        2 => {
-            let at = dice.below(n as u64) as usize;
-            bytes[at] ^= 1 << dice.below(8);
-        }
-        3 => {
-            let at = n - 1 - dice.below(16) as usize;
-            bytes[at] = dice.roll() as u8;
-        }
-        4 => bytes.swap(n - 1, n - 2),
-        5 => {
-            let count = dice.below(1_100) as u16;
-            bytes[n - 8..n - 6].copy_from_slice(&count.to_le_bytes());
-            if dice.once_in(2) {
-                let back = 16 + 12 * u32::from(count);
-                bytes[n - 16..n - 12].copy_from_slice(&back.to_le_bytes());
-            }
-        }
-        6 => bytes.push(dice.roll() as u8),
-        _ => bytes[n - 16..n - 12]
-            .copy_from_slice(&(dice.roll() as u32 >> dice.below(30)).to_le_bytes()),
-    }
-}
-
-/// Rolls with prefaces, most of them damaged, and row buffers of any length.
-pub fn rolls(take: &mut Take, dice: &mut Dice, times: u64) -> Done {
-    for k in 0..times {
-        let (mut bytes, n) = random_roll(dice);
-        if k % 4 != 0 {
-            damage(dice, &mut bytes);
-        }
-        let room = if dice.once_in(5) {
-            dice.below(5 * n as u64 + 5) as usize
-        } else {
-            5 * n + dice.below(7) as usize
-        };
-        let group = if k % 4 == 0 {
-            "rolls with prefaces"
-        } else {
-            "damaged rolls"
-        };
-        take(group, Case::Roll { bytes, room }, ANSWER)?;
-    }
-    Ok(())
-}
-
-/// Rolls of more than 1,024 records, and of as many as there may be.
-pub fn long_rolls(take: &mut Take, dice: &mut Dice, times: u64) -> Done {
-    for _ in 0..times {
-        let n = 1_022 + dice.below(6) as usize;
-        let l = list(&vec![0; n], &vec![TOP as u32; n], &vec![1; n], 1, 1);
-        take(
-            "rolls of about 1,024 records",
-            Case::Roll {
-                bytes: roll_of(&l, &[]),
-                room: 5 * n,
-            },
-            ANSWER,
-        )?;
-    }
-    Ok(())
-}
-
-/// Inputs of the program: every front of 01's sample, rolls whole and damaged, and inputs about 65,536 bytes long.
-pub fn inputs(take: &mut Take, dice: &mut Dice, times: u64) -> Done {
-    let sample = roll_of(
-        &List {
-            reference: 100,
-            ..list(&[100, 100], &[104, 112], &[2, 2], 1, 1)
-        },
-        &[],
-    );
-    for n in 0..=sample.len() {
-        take(
-            "inputs of rollplan: fronts of the sample",
-            Case::Program {
-                bytes: sample[..n].to_vec(),
-            },
-            ANSWER,
-        )?;
-    }
-    for k in 0..times {
-        let (mut bytes, _) = random_roll(dice);
-        if k % 2 != 0 {
-            damage(dice, &mut bytes);
-        }
-        take(
-            "inputs of rollplan: rolls, whole and damaged",
-            Case::Program { bytes },
-            ANSWER,
-        )?;
-    }
-    for k in 0..times / 4 {
-        let (roll, _) = random_roll(dice);
-        let length = [65_536, 65_537, 65_535, 65_537 + dice.below(70_000) as usize][k as usize % 4];
-        let mut bytes = vec![0xaa; length - roll.len()];
-        bytes.extend(roll);
-        take(
-            "inputs of rollplan about 65,536 bytes long",
-            Case::Program { bytes },
-            ANSWER,
-        )?;
     }
     Ok(())
 }

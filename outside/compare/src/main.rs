@@ -1,5 +1,5 @@
-//! Compares the proved planner with the independent program, prints how much was compared, and fails
-//! at the first difference, or where some refusal was met fewer than a hundred times.
+//! Compares the proved library with the independent program, prints how much was compared, and fails
+//! at the first difference, or where some number was met fewer than a hundred times.
 //!
 //! compare PATH-TO-ROLLPLAN [SEED]     all groups
 //! compare --case LINE [PATH]          one case, as a failure prints it
@@ -34,6 +34,7 @@ fn groups(take: &mut Take, seed: u64) -> Result<(), String> {
     )?;
     made::edges(take, dice, 200_000)?;
     made::rolls(take, dice, 600_000)?;
+    made::damaged_sample(take)?;
     made::long_rolls(take, dice, 300)?;
     made::inputs(take, dice, 2_000)
 }
@@ -50,7 +51,7 @@ fn all(program: PathBuf, seed: u64) -> Result<(), String> {
     let rare = tally.rare(LEAST_OF_EACH);
     if !rare.is_empty() {
         return Err(format!(
-            "refusals met fewer than {LEAST_OF_EACH} times: {rare:?}"
+            "numbers met fewer than {LEAST_OF_EACH} times: {rare:?}"
         ));
     }
     if tally.wrapped < LEAST_OF_EACH {

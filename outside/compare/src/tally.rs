@@ -9,6 +9,8 @@ pub const NUMBERS: usize = 15;
 pub struct Tally {
     /// Answers by number, 0 to 14.
     pub answers: [u64; NUMBERS],
+    /// Rolls of which the reader's numbers were compared, by its number: 0 and 10 to 13.
+    pub readings: [u64; NUMBERS],
     /// Accepted answers held against the definitions themselves.
     pub plans: u64,
     /// Rival plans whose sum at a threshold was compared.
@@ -24,10 +26,13 @@ impl Tally {
         self.groups.values().sum()
     }
 
-    /// The refusals met fewer than `least` times.
+    /// The numbers met fewer than `least` times: as an answer, 0 to 14, or from the reader, 0 and 10 to 13.
     pub fn rare(&self, least: u64) -> Vec<usize> {
-        (1..NUMBERS)
-            .filter(|&number| self.answers[number] < least)
+        (0..NUMBERS)
+            .filter(|&number| {
+                let read = number == 0 || (10..=13).contains(&number);
+                self.answers[number] < least || read && self.readings[number] < least
+            })
             .collect()
     }
 
@@ -42,12 +47,23 @@ impl Tally {
             self.rivals
         );
         println!(
+            "{} of them with a roll, whose reading was compared too",
+            self.readings.iter().sum::<u64>()
+        );
+        println!(
             "{} lists in which the clock runs past its top",
             self.wrapped
         );
-        let refusals: Vec<String> = (0..NUMBERS)
-            .map(|number| format!("{number}: {}", self.answers[number]))
-            .collect();
-        println!("answers by number: {}", refusals.join(", "));
+        println!("answers by number: {}", by_number(&self.answers));
+        println!("readings by number: {}", by_number(&self.readings));
     }
+}
+
+/// The counts that are not 0, each behind its number.
+fn by_number(counts: &[u64; NUMBERS]) -> String {
+    let met: Vec<String> = (0..NUMBERS)
+        .filter(|&number| counts[number] != 0)
+        .map(|number| format!("{number}: {}", counts[number]))
+        .collect();
+    met.join(", ")
 }

@@ -1,76 +1,126 @@
-//! The comparer is itself tested: planners that are wrong on purpose are caught, the failing case can be
-//! run alone and fails again, and the proved planner passes the same cases.
+//! The comparer is itself tested: planners and readers that are wrong on purpose are caught, the failing
+//! case can be run alone and fails again, and the proved library passes the same cases.
 
-use compare::case::{Case, Planner, Proved};
-use compare::judge::{judge, Depth};
-use compare::made::{self, Dice};
+use compare::case::{Case, Library, Proved};
+use compare::judge::{judge, Depth, ANSWER, PROPERTIES};
+use compare::made::{self, Dice, Take};
 use compare::tally::Tally;
-use compare::wrong::{FirstAtTies, PlaceOff, Rounded, Spills};
+use compare::wrong::{
+    FirstAlike, FirstAtTies, ReaderTouches, Rounded, Spills, Touches, BLOCK_OF_A_REFUSAL,
+    BYTE_EARLY, BYTE_SHORT, LEFT, PLACE_OFF, PLACE_OF_A_PLAN,
+};
 use std::path::Path;
 
-fn compared(planner: &dyn Planner) -> Result<u64, String> {
-    let mut tally = Tally::default();
-    let mut take = |group, case: Case, depth: Depth| {
-        judge(planner, Path::new("no program"), &case, depth, &mut tally)?;
-        *tally.groups.entry(group).or_insert(0) += 1;
-        Ok(())
-    };
+type Cases = fn(&mut Take) -> Result<(), String>;
+
+fn lists(take: &mut Take) -> Result<(), String> {
     let dice = &mut Dice(7);
-    made::table(&mut take)?;
-    made::random_small(&mut take, dice, 20_000)?;
-    made::edges(&mut take, dice, 5_000)?;
-    made::rolls(&mut take, dice, 5_000)?;
-    Ok(tally.cases())
+    made::table(take)?;
+    made::random_small(take, dice, 20_000)?;
+    made::edges(take, dice, 5_000)
 }
 
-/// The planner is caught, for the reason given, and the case that the message names fails alone.
-fn caught(planner: &dyn Planner, reason: &str) {
-    let message = compared(planner).expect_err("a wrong planner was not caught");
+fn rolls(take: &mut Take) -> Result<(), String> {
+    made::rolls(take, &mut Dice(7), 5_000)
+}
+
+fn compared(library: &dyn Library, cases: Cases) -> Result<Tally, String> {
+    let mut tally = Tally::default();
+    cases(&mut |group, case: Case, depth: Depth| {
+        judge(library, Path::new("no program"), &case, depth, &mut tally)?;
+        *tally.groups.entry(group).or_insert(0) += 1;
+        Ok(())
+    })?;
+    Ok(tally)
+}
+
+fn alone(library: &dyn Library, case: &Case, depth: Depth) -> Result<(), String> {
+    let program = Path::new("no program");
+    judge(library, program, case, depth, &mut Tally::default())
+}
+
+/// The library is caught, for the reason given, and the case that the message names fails alone.
+fn caught(library: &dyn Library, cases: Cases, reason: &str) {
+    let Err(message) = compared(library, cases) else {
+        panic!("a wrong library was not caught");
+    };
     assert!(message.contains(reason), "{message}");
     let line = message
         .split("--case ")
         .nth(1)
         .expect("the message names its case");
     let case = Case::parse(line).expect("a case");
-    let alone = judge(
-        planner,
-        Path::new("no program"),
-        &case,
-        compare::judge::ANSWER,
-        &mut Tally::default(),
-    );
-    assert!(alone.is_err());
-    let proved = judge(
-        &Proved,
-        Path::new("no program"),
-        &case,
-        compare::judge::PROPERTIES,
-        &mut Tally::default(),
-    );
-    assert_eq!(proved, Ok(()));
+    assert!(alone(library, &case, ANSWER).is_err());
+    assert_eq!(alone(&Proved, &case, PROPERTIES), Ok(()));
 }
 
 #[test]
-fn the_proved_planner_passes() {
-    assert_eq!(compared(&Proved), Ok(18 + 20_000 + 5_000 + 5_000));
+fn the_proved_library_passes() {
+    let tally = compared(&Proved, lists).expect("no difference");
+    assert_eq!(tally.cases(), 18 + 20_000 + 5_000);
+    let tally = compared(&Proved, rolls).expect("no difference");
+    assert_eq!(tally.cases(), 5_000);
+    assert_eq!(tally.readings.iter().sum::<u64>(), 5_000);
 }
 
 #[test]
 fn rounded_paces_are_caught() {
-    caught(&Rounded, "of the buffer is");
+    caught(&Rounded, lists, "of the buffer is");
 }
 
 #[test]
 fn the_first_of_ties_is_caught() {
-    caught(&FirstAtTies, "number, place and blocks are");
+    caught(&FirstAtTies, lists, "answered Reply");
 }
 
 #[test]
 fn a_number_behind_the_rows_is_caught() {
-    caught(&Spills, "of the buffer is");
+    caught(&Spills, lists, "of the buffer is");
 }
 
 #[test]
 fn a_place_off_by_one_is_caught() {
-    caught(&PlaceOff, "number, place and blocks are");
+    caught(&PLACE_OFF, lists, "answered Reply");
+    caught(&PLACE_OFF, rolls, "answered Reply");
+}
+
+#[test]
+fn a_place_with_a_plan_is_caught() {
+    let reason = "answered Reply { number: 0, place: 3, ";
+    caught(&PLACE_OF_A_PLAN, lists, reason);
+    caught(&PLACE_OF_A_PLAN, rolls, reason);
+}
+
+#[test]
+fn a_block_with_a_refusal_is_caught() {
+    let reason = "answered Reply { number: 9, ";
+    caught(&BLOCK_OF_A_REFUSAL, lists, reason);
+    caught(&BLOCK_OF_A_REFUSAL, rolls, reason);
+}
+
+#[test]
+fn a_part_at_the_wrong_place_is_caught() {
+    for reader in [BYTE_EARLY, BYTE_SHORT] {
+        caught(&reader, rolls, "read Numbers { number: 0, ");
+    }
+}
+
+#[test]
+fn bytes_of_the_preface_for_equal_records_are_caught() {
+    caught(&FirstAlike, rolls, "read Numbers { number: 0, ");
+}
+
+#[test]
+fn a_number_of_the_reader_with_a_refusal_is_caught() {
+    for reader in LEFT {
+        caught(&reader, rolls, "read Numbers { number: 1");
+    }
+}
+
+#[test]
+fn a_change_of_what_was_lent_to_be_read_is_caught() {
+    let reason = "what was lent to be read has changed";
+    caught(&Touches, lists, reason);
+    caught(&Touches, rolls, reason);
+    caught(&ReaderTouches, rolls, reason);
 }

@@ -1,7 +1,8 @@
 //! An independent answerer for lists of reports and for roll files.
 //!
-//! This file holds the public interface: what is handed in (`List`), what comes back (`Answer`),
-//! and the three entry points for a plain list, for a roll and for the whole input of the program.
+//! This file holds the public interface: what is handed in (`List`), what comes back (`Answer`,
+//! `Reading`), and the entry points for a plain list, for a roll, for the whole input of the program
+//! and for the reading of a roll alone.
 //! The rules stand in `rules`, the rows are found in `spans`, rolls are read in `roll`, and `check`
 //! tests an accepted answer against the definitions themselves.
 #![forbid(unsafe_code)]
@@ -49,6 +50,25 @@ pub struct Answer {
     pub rows: Vec<[u32; 5]>,
 }
 
+/// What is read of a roll; on a refusal all but its number are 0.
+#[derive(Clone, Copy, Debug, Default, PartialEq, Eq)]
+pub struct Reading {
+    /// 0 for a roll that is read, otherwise the number of the refusal, 10 to 13.
+    pub number: u32,
+    /// The record count.
+    pub count: u32,
+    /// The reference reading.
+    pub reference: u32,
+    /// P of the fastest pace P/Q.
+    pub p: u32,
+    /// Q of the fastest pace P/Q.
+    pub q: u32,
+    /// Where the first record starts, or would, in bytes from the roll's first.
+    pub at: usize,
+    /// How many bytes the records have together.
+    pub size: usize,
+}
+
 /// Offsets of an accepted list, with its operations and fastest pace, for the checks.
 pub struct Reports {
     /// Arrival offsets.
@@ -89,16 +109,28 @@ pub fn answer_list(list: &List) -> Answer {
 pub fn answer_roll(roll: &[u8], room: usize) -> Answer {
     match roll::read(roll) {
         Err(number) => refused(number, 0),
-        Ok(carried) => answer_list(&List {
-            arrivals: &carried.arrivals,
-            deadlines: &carried.deadlines,
-            operations: &carried.operations,
-            reference: carried.reference,
-            p: carried.p,
-            q: carried.q,
-            room,
-        }),
+        Ok(reading) => {
+            let carried = roll::carried(&roll[reading.at..][..reading.size]);
+            answer_list(&List {
+                arrivals: &carried.arrivals,
+                deadlines: &carried.deadlines,
+                operations: &carried.operations,
+                reference: reading.reference,
+                p: reading.p,
+                q: reading.q,
+                room,
+            })
+        }
     }
+}
+
+/// What the reader of rolls gives back: the trailer's numbers and where the records lie, by rules 10 to
+/// 13 alone.
+pub fn read_roll(roll: &[u8]) -> Reading {
+    roll::read(roll).unwrap_or_else(|number| Reading {
+        number,
+        ..Reading::default()
+    })
 }
 
 /// What program `rollplan` prints for this input: refusal 14 before all others, row room for

@@ -1,17 +1,18 @@
-//! The reader of rolls: refusals 10 to 13, and the list that the roll's records carry.
+//! The reader of rolls: refusals 10 to 13, the numbers of the trailer and where the records lie, and
+//! the list that they carry. A roll is taken apart from its end: the trailer's numbers one by one,
+//! last first, then the records; what is left is the preface.
+
+use crate::Reading;
 
 const TRAILER: usize = 16;
 const RECORD: usize = 12;
 const MARK: [u8; 2] = [0x41, 0x51];
 
-/// The list in an accepted roll, with the trailer's numbers.
+/// The list in an accepted roll.
 pub struct Carried {
     pub arrivals: Vec<u32>,
     pub deadlines: Vec<u32>,
     pub operations: Vec<u32>,
-    pub reference: u32,
-    pub p: u32,
-    pub q: u32,
 }
 
 /// The little-endian number in these bytes.
@@ -22,36 +23,53 @@ fn number(bytes: &[u8]) -> u32 {
         .fold(0, |value, &byte| value * 256 + u32::from(byte))
 }
 
+/// Takes the last bytes off what is left of a roll.
+fn last<'a>(left: &mut &'a [u8], bytes: usize) -> &'a [u8] {
+    let (front, end) = left.split_at(left.len() - bytes);
+    *left = front;
+    end
+}
+
 /// Reads a roll; the error is the number of the refusal.
-pub fn read(roll: &[u8]) -> Result<Carried, u32> {
+pub fn read(roll: &[u8]) -> Result<Reading, u32> {
     if roll.len() < TRAILER {
         return Err(10);
     }
-    let trailer = &roll[roll.len() - TRAILER..];
-    if trailer[14..16] != MARK {
+    let mut left = roll;
+    if last(&mut left, 2) != MARK {
         return Err(11);
     }
-    let back = u64::from(number(&trailer[0..4]));
-    let count = u64::from(number(&trailer[8..10]));
-    if back != TRAILER as u64 + RECORD as u64 * count {
+    let [q, p, count, reference, back] =
+        [2, 2, 2, 4, 4].map(|bytes| number(last(&mut left, bytes)));
+    if u64::from(back) != TRAILER as u64 + RECORD as u64 * u64::from(count) {
         return Err(12);
     }
-    if back > roll.len() as u64 {
+    if u64::from(back) > roll.len() as u64 {
         return Err(13);
     }
-    let records = &roll[roll.len() - back as usize..roll.len() - TRAILER];
+    let size = (0..count).map(|_| last(&mut left, RECORD).len()).sum();
+    Ok(Reading {
+        number: 0,
+        count,
+        reference,
+        p,
+        q,
+        at: left.len(),
+        size,
+    })
+}
+
+/// The list in these records.
+pub fn carried(records: &[u8]) -> Carried {
     let column = |at: usize| {
         records
             .chunks_exact(RECORD)
             .map(|record| number(&record[at..at + 4]))
             .collect()
     };
-    Ok(Carried {
+    Carried {
         arrivals: column(0),
         deadlines: column(4),
         operations: column(8),
-        reference: number(&trailer[4..8]),
-        p: number(&trailer[10..12]),
-        q: number(&trailer[12..14]),
-    })
+    }
 }

@@ -1,8 +1,10 @@
-//! Vakrhildo for Rust: the proved planner behind safe functions.
+//! Vakrhildo for Rust: the proved planner and the roll's reader behind safe functions.
 //!
 //! `plan` takes three lists of readings, `plan_roll` a roll; both write rows of five numbers to the
 //! front of a buffer of the caller's and give back the number of rows, or a refusal that has left the
-//! buffer as it was. Every input of whatever length and content is answered.
+//! buffer as it was. `read` gives back the numbers of a roll's trailer and the part of its bytes that
+//! holds the records. Every input of whatever length and content is answered. `plan_raw`,
+//! `plan_roll_raw` and `read_raw` give the library's own numbers, of which the others make a `Result`.
 #![warn(missing_docs)]
 
 use std::fmt;
@@ -84,14 +86,56 @@ pub fn rows(buffer: &[u32], blocks: usize) -> impl Iterator<Item = Row> + '_ {
     })
 }
 
-// answers::Reply, and the functions of crates/vakrhildo: a slice is a pointer and a length.
-#[repr(C)]
-struct Reply {
-    number: u32,
-    place: usize,
-    blocks: usize,
+/// What is read of a roll: the trailer's numbers, and the part of the caller's bytes that holds the
+/// records, 12 bytes each. Rules 1 to 9 are not tried: the count may be up to 65,535, P and Q may be 0.
+#[derive(Clone, Copy, Debug, PartialEq, Eq)]
+pub struct Reading<'a> {
+    /// The record count.
+    pub count: u32,
+    /// The reference.
+    pub reference: u32,
+    /// P of the fastest pace P/Q.
+    pub p: u32,
+    /// Q of the fastest pace P/Q.
+    pub q: u32,
+    /// The records.
+    pub part: &'a [u8],
 }
 
+/// The library's own reply for a list (`answers::Reply`): all three numbers, as they came.
+#[repr(C)]
+#[derive(Clone, Copy, Debug, PartialEq, Eq)]
+pub struct Reply {
+    /// 0, a plan; else the refusal.
+    pub number: u32,
+    /// The report that a refusal concerns, 0 where no report is.
+    pub place: usize,
+    /// How many rows were written; 0 on a refusal.
+    pub blocks: usize,
+}
+
+/// The library's own numbers of a roll (`roll::Numbers`), as they came; on a refusal all but the first
+/// are 0.
+#[repr(C)]
+#[derive(Clone, Copy, Debug, PartialEq, Eq)]
+pub struct Numbers {
+    /// 0, or the refusal.
+    pub number: u32,
+    /// The record count.
+    pub count: u32,
+    /// The reference.
+    pub reference: u32,
+    /// P of the fastest pace P/Q.
+    pub p: u32,
+    /// Q of the fastest pace P/Q.
+    pub q: u32,
+    /// Where the part with the records starts in the roll.
+    pub at: usize,
+    /// The bytes of that part.
+    pub size: usize,
+}
+
+// The functions of crates/vakrhildo: a slice is a pointer and a length.
 extern "C" {
     fn vakrhildo_plan(
         arrivals: *const u32,
@@ -113,6 +157,8 @@ extern "C" {
         rows: *mut u32,
         rows_length: usize,
     ) -> Reply;
+
+    fn vakrhildo_read(roll: *const u8, roll_length: usize) -> Numbers;
 }
 
 fn blocks(reply: Reply) -> Result<usize, Refusal> {
@@ -136,9 +182,24 @@ pub fn plan(
     q: u32,
     rows: &mut [u32],
 ) -> Result<usize, Refusal> {
+    blocks(plan_raw(
+        arrivals, deadlines, operations, reference, p, q, rows,
+    ))
+}
+
+/// Plans a list, as `plan` does: the library's own reply.
+pub fn plan_raw(
+    arrivals: &[u32],
+    deadlines: &[u32],
+    operations: &[u32],
+    reference: u32,
+    p: u32,
+    q: u32,
+    rows: &mut [u32],
+) -> Reply {
     // Safety: each pointer and length is a slice's own, `rows` is borrowed alone, and the function
     // asks nothing else: its contract has no `requires`.
-    blocks(unsafe {
+    unsafe {
         vakrhildo_plan(
             arrivals.as_ptr(),
             arrivals.len(),
@@ -152,11 +213,37 @@ pub fn plan(
             rows.as_mut_ptr(),
             rows.len(),
         )
-    })
+    }
 }
 
 /// Plans the list in a roll.
 pub fn plan_roll(roll: &[u8], rows: &mut [u32]) -> Result<usize, Refusal> {
-    // Safety: as in `plan`.
-    blocks(unsafe { vakrhildo_plan_roll(roll.as_ptr(), roll.len(), rows.as_mut_ptr(), rows.len()) })
+    blocks(plan_roll_raw(roll, rows))
+}
+
+/// Plans the list in a roll, as `plan_roll` does: the library's own reply.
+pub fn plan_roll_raw(roll: &[u8], rows: &mut [u32]) -> Reply {
+    // Safety: as in `plan_raw`.
+    unsafe { vakrhildo_plan_roll(roll.as_ptr(), roll.len(), rows.as_mut_ptr(), rows.len()) }
+}
+
+/// Reads a roll: rules 10 to 13, then the trailer's numbers and the records, which are not copied.
+pub fn read(roll: &[u8]) -> Result<Reading<'_>, Refusal> {
+    let numbers = read_raw(roll);
+    match numbers.number {
+        0 => Ok(Reading {
+            count: numbers.count,
+            reference: numbers.reference,
+            p: numbers.p,
+            q: numbers.q,
+            part: &roll[numbers.at..numbers.at + numbers.size],
+        }),
+        number => Err(Refusal { number, place: 0 }),
+    }
+}
+
+/// Reads a roll, as `read` does: the library's own numbers.
+pub fn read_raw(roll: &[u8]) -> Numbers {
+    // Safety: as in `plan_raw`.
+    unsafe { vakrhildo_read(roll.as_ptr(), roll.len()) }
 }

@@ -1,6 +1,8 @@
-//! The wrapper hands on what the library answers: rows, refusals with their places, buffers that stay.
+//! The wrapper hands on what the library answers: rows, refusals with their places, buffers that stay,
+//! and the part of a roll that holds the records.
 
-use vakrhildo::{plan, plan_roll, rows, Refusal, Row, REPORTS, ROW};
+use vakrhildo::{plan, plan_raw, plan_roll, plan_roll_raw, read, read_raw, rows};
+use vakrhildo::{Numbers, Reading, Refusal, Reply, Row, REPORTS, ROW};
 
 const SAMPLE: [u8; 40] = [
     0x64, 0, 0, 0, 0x68, 0, 0, 0, 2, 0, 0, 0, 0x64, 0, 0, 0, 0x70, 0, 0, 0, 2, 0, 0, 0, 0x28, 0, 0,
@@ -82,6 +84,81 @@ fn a_refusal_has_its_number_and_place_and_writes_nothing() {
 }
 
 #[test]
+fn the_librarys_own_reply_has_all_three_numbers() {
+    let mut buffer = [7u32; 12];
+    let reply = |number, place, blocks| Reply {
+        number,
+        place,
+        blocks,
+    };
+    assert_eq!(
+        plan_raw(&[0, 0], &[4, 12], &[2, 2], 0, 1, 1, &mut buffer),
+        reply(0, 0, 2)
+    );
+    assert_eq!(
+        plan_raw(&[0, 0], &[4, 5], &[4, 2], 0, 1, 1, &mut buffer),
+        reply(9, 1, 0)
+    );
+    assert_eq!(plan_roll_raw(&SAMPLE, &mut buffer), reply(0, 0, 2));
+    assert_eq!(plan_roll_raw(&SAMPLE[1..], &mut buffer), reply(13, 0, 0));
+}
+
+#[test]
+fn a_reading_has_the_trailers_numbers_and_the_callers_own_bytes() {
+    let roll = [&SAMPLE[..24], &[9], &SAMPLE].concat();
+    let reading = read(&roll).expect("a roll");
+    assert!(std::ptr::eq(reading.part, &roll[25..49]));
+    assert_eq!(
+        reading,
+        Reading {
+            count: 2,
+            reference: 100,
+            p: 1,
+            q: 1,
+            part: &SAMPLE[..24]
+        }
+    );
+    assert_eq!(
+        read_raw(&roll),
+        Numbers {
+            number: 0,
+            count: 2,
+            reference: 100,
+            p: 1,
+            q: 1,
+            at: 25,
+            size: 24
+        }
+    );
+}
+
+#[test]
+fn a_roll_that_is_not_read_has_its_refusal_and_no_other_number() {
+    let mut unlike = SAMPLE;
+    unlike[32] = 1;
+    for (roll, number) in [
+        (&SAMPLE[..15], 10),
+        (&SAMPLE[..39], 11),
+        (&unlike[..], 12),
+        (&SAMPLE[1..], 13),
+    ] {
+        assert_eq!(read(roll), Err(Refusal { number, place: 0 }));
+        assert_eq!(
+            read_raw(roll),
+            Numbers {
+                number,
+                count: 0,
+                reference: 0,
+                p: 0,
+                q: 0,
+                at: 0,
+                size: 0
+            }
+        );
+    }
+}
+
+#[test]
 fn every_refusal_has_a_meaning() {
     for number in 1..=13 {
         let refusal = Refusal { number, place: 3 };
@@ -95,11 +172,10 @@ fn every_refusal_has_a_meaning() {
 #[test]
 fn nothing_is_answered_too() {
     assert_eq!(plan(&[], &[], &[], 0, 1, 1, &mut []), Ok(0));
-    assert_eq!(
-        plan_roll(&[], &mut []),
-        Err(Refusal {
-            number: 10,
-            place: 0
-        })
-    );
+    let short = Refusal {
+        number: 10,
+        place: 0,
+    };
+    assert_eq!(plan_roll(&[], &mut []), Err(short));
+    assert_eq!(read(&[]), Err(short));
 }

@@ -3,6 +3,7 @@
 mod helpers;
 mod plan_checks;
 mod random;
+mod readings;
 mod refusals;
 mod sizes;
 mod slips;
