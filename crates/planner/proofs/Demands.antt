@@ -1,6 +1,8 @@
 -- The demands, as theorems about `plan`: for the inspector. Each follows from the promise of `plan` alone, `PlanOutcome` (specs/Outcome.antt), which is proved of
 -- the running code for every input. x is what `plan` is handed; number, place, blocks and after are what it returns and what the row buffer then holds.
--- Nothing is assumed.
+-- Nothing is assumed. That the code ends, and that nothing it does is undefined, is not stated here: the language's check of every function shows it (a measure falls at each turn of a loop; every index, slice, sum and product
+-- is shown to be in range). In the verdict of that check `logic-built=trusted` says that the kit's own logic was taken as the kit's makers checked it, and `libraries-built=trusted` that each crate below was taken as its own check
+-- left it: `rt ci` makes those checks first, in the same run from nothing, for all but the kit's libraries.
 use Prim.Native.Nat.{ℕ, zero, suc, _<_}
 use mathlib.Core.Path.{_≡_}
 use mathlib.Core.List.{List, [], _∷_, _++_}
