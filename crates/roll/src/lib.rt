@@ -105,7 +105,7 @@ fn trailer_rules(so_far: Verdict, file: &[u8]) -> Verdict
     or_if(v, given, Refusal::TOO_FAR, 0)
 }
 
-// The numbers of a trailer that is there.
+// The trailer's numbers, read off its bytes.
 fn trailer_numbers(file: &[u8]) -> Trailer
     requires { ⌜ 16 ≤ length (now file) ⌝ }
     ensures { λ r. ⌜ TrailerIs (now (file .entry)) r ⌝ }
@@ -151,7 +151,7 @@ fn refusal_of(answer: TrailerAnswer) -> Refusal
     }
 }
 
-// The numbers of a refused trailer.
+// What is read of a roll whose trailer is refused.
 fn numbers_refused(answer: TrailerAnswer) -> Numbers
     ensures { λ r. ⌜ r ≡ numbersRefused (refusalIn answer .number) ⌝ }
 {
@@ -169,7 +169,7 @@ fn numbers_refused(answer: TrailerAnswer) -> Numbers
     }
 }
 
-// The numbers of a trailer that is there.
+// What is read of a roll whose trailer is there.
 fn numbers_of(file: &[u8], trailer: Trailer) -> Numbers
     requires is { ⌜ TrailerAnswerIs (now file) (Is trailer) ⌝ }
     ensures { λ r. ⌜ NumbersIs (now (file .entry)) r ⌝ }
