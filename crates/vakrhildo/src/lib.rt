@@ -40,5 +40,6 @@ pub extern "C" fn vakrhildo_plan_roll(file: &[u8], rows: &mut [u32]) -> Reply
 pub extern "C" fn vakrhildo_read(file: &[u8]) -> Numbers
     ensures { λ r. ⌜ NumbersIs (now (file .entry)) r ⌝ }
 {
-    roll::read_numbers(file)
+    let reading = roll::read(file);
+    reading.numbers
 }
