@@ -35,22 +35,23 @@ pub data Result : Type 0 where
   planned : List Row → Result
   refused : ℕ → ℕ → Result
 
--- a row of the table: the three lists of readings, reference, P and Q, and the result
+-- a row of the table: the three lists of readings, reference, P and Q, how many numbers the row buffer has, and the result
 pub record Entry : Type 0 where
   pub arrivals : List ℕ
   pub deadlines : List ℕ
   pub operations : List ℕ
   pub terms : Roll
+  pub room : ℕ
   pub result : Result
 
--- what is handed in: with a buffer that holds 7s, a row's width for each report and two numbers more
+-- what is handed in: with a buffer that holds 7s
 abbrev pub input : Entry → Input
 input e = record {
   arrivals = e .arrivals;
   deadlines = e .deadlines;
   operations = e .operations;
   terms = e .terms;
-  buffer = replicate (width * length (e .arrivals) + 2) 7;
+  buffer = replicate (e .room) 7;
 }
 
 -- the number of a result
@@ -91,13 +92,24 @@ unfoldable pub AllGiven : List Entry → Type 0
 AllGiven [] = Unit {0}
 AllGiven (e ∷ es) = Given e × AllGiven es
 
--- a row of the table, with reference, P and Q
+-- a row of the table, with reference, P and Q; the buffer has a row's width for each report and two numbers more
 abbrev entry : List ℕ → List ℕ → List ℕ → ℕ → ℕ → ℕ → Result → Entry
-entry a d w reference p q r = record { arrivals = a; deadlines = d; operations = w; terms = record { reference = reference; p = p; q = q }; result = r }
+entry a d w reference p q r = record {
+  arrivals = a;
+  deadlines = d;
+  operations = w;
+  terms = record { reference = reference; p = p; q = q };
+  room = width * length a + 2;
+  result = r;
+}
 
 -- one with reference 0 and P/Q 1/1
 abbrev plain : List ℕ → List ℕ → List ℕ → Result → Entry
 plain a d w r = entry a d w 0 1 1 r
+
+-- one with another buffer besides
+abbrev within : ℕ → Entry → Entry
+within n e = record { arrivals = e .arrivals; deadlines = e .deadlines; operations = e .operations; terms = e .terms; room = n; result = e .result }
 
 -- a result of the definitions' table
 abbrev resultOf : Definitions.Result → Result
@@ -108,7 +120,7 @@ resultOf (Definitions.nine place) = refused 9 place
 unfoldable pub starred : List Entry
 starred = map (λ e. plain (e .arrivals) (e .deadlines) (e .operations) (resultOf (e .result))) Definitions.starred
 
--- The rows without a star; 01's list with a reference; and a list each for the refusals 1, 2, 4 and 6. Refusal 3 is left out: the buffer of an entry is never too short.
+-- The rows without a star; 01's list with a reference; and a list each for the refusals 1, 2, 3, 4 and 6.
 pub others : List Entry
 others =
     entry (0 ∷ []) (2 ∷ []) (3 ∷ []) 0 2 3 (planned (block 0 0 0 2 3 ∷ []))
@@ -120,6 +132,7 @@ others =
     ∷ entry (4294967295 ∷ 3 ∷ []) (9 ∷ 14 ∷ []) (2 ∷ 2 ∷ []) 4294967290 1 1 (planned (block 0 1 5 20 4 ∷ []))
     ∷ plain (0 ∷ []) (2 ∷ 2 ∷ []) (1 ∷ []) (refused 1 0)
     ∷ plain (replicate 1025 0) (replicate 1025 2) (replicate 1025 1) (refused 2 0)
+    ∷ within 9 (plain (0 ∷ 0 ∷ []) (2 ∷ 2 ∷ []) (1 ∷ 1 ∷ []) (refused 3 0))
     ∷ entry (0 ∷ []) (2 ∷ []) (1 ∷ []) 0 1 65536 (refused 4 0)
     ∷ plain (0 ∷ 2147483648 ∷ []) (2 ∷ 2 ∷ []) (1 ∷ 1 ∷ []) (refused 6 1)
     ∷ []

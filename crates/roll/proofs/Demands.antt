@@ -5,10 +5,9 @@
 use Prim.Native.Nat.{ℕ, _<_}
 use mathlib.Core.Path.{_≡_}
 use mathlib.Core.List.{List}
-use mathlib.Core.Logic.{_⊎_, _↔_, ⊎-elim}
+use mathlib.Core.Logic.{_⊎_, _↔_, inl, inr, ⊎-elim}
 use native.Mathlib.Omega.{arith}
 use Rattle.trials.specs.Rules.{Accepted}
-use Rattle.trials.proofs.Passing.{Passed}
 use Rattle.trials.proofs.Single.{not-refused}
 use Rattle.trials.proofs.Numbers.{Never, never-none, never-other}
 use Rattle.fraction.specs.Fraction.{Fraction, _≼_, _≺_, whole}
@@ -49,8 +48,8 @@ module _ (s buffer : List ℕ) where
 
   module _ (number place blocks : ℕ) (after : List ℕ) (o : RollOutcome s buffer number place blocks after) where
     -- and it is a fault of the file, refused with its number, no blocks and the buffer as it was; or it is the answer for the list in the roll.
-    pub a-fault-of-the-file-or-the-answer-for-the-list : RefusedBy (fileRules s) buffer number place blocks after ⊎ (Passed (fileRules s) × PlanOutcome list number place blocks after)
-    a-fault-of-the-file-or-the-answer-for-the-list = by-either reports fastest buffer (fileRules s) (planRules list) number place blocks after o
+    pub a-fault-of-the-file-or-the-answer-for-the-list : RefusedBy (fileRules s) buffer number place blocks after ⊎ (Accepted (fileRules s) × PlanOutcome list number place blocks after)
+    a-fault-of-the-file-or-the-answer-for-the-list = ⊎-elim inl (λ p. inr (p .0 .accepted, p .1)) (by-either reports fastest buffer (fileRules s) (planRules list) number place blocks after o)
 
     -- Where the file is in order, it is the answer for the list.
     pub the-answer-for-the-list : Accepted (fileRules s) → PlanOutcome list number place blocks after

@@ -5,12 +5,12 @@
 use Prim.Native.Nat.{ℕ, _+_, _*_, _≤_}
 use mathlib.Core.Path.{_≡_, sym, _∙_, ap, ap₂, subst}
 use mathlib.Core.List.{List, [], _∷_, _++_}
-use mathlib.Core.Logic.{_⊎_, ⊎-elim}
+use mathlib.Core.Logic.{_⊎_, inl, inr, ⊎-elim}
 use native.Mathlib.Omega.{arith}
 use lib.ListN.{length, take, drop}
 use lib.Seq.{take-append-seam}
 use Rattle.answers.specs.Numbers.{width}
-use Rattle.trials.proofs.Passing.{Passed}
+use Rattle.trials.specs.Rules.{Accepted}
 use Rattle.trials.proofs.Numbers.{Never, never-none, never-other}
 use Rattle.fraction.specs.Fraction.{Fraction, _≼_, _≺_, whole}
 use Rattle.critical.specs.Reports.{Reports, Paces, finish, Keeps, Allowed, steady}
@@ -63,9 +63,9 @@ module _ (s rows out : List ℕ) (r : ℕ) (after text : List ℕ) (says : Says 
   -- It says 14 where the input is too long; else it says the answer for the roll.
   pub too-long-or-the-answer-for-the-roll :
       (number place blocks : ℕ) → Begins written number place blocks →
-      RefusedBy (longRule s ∷ []) rows number place blocks after ⊎ (Passed (longRule s ∷ []) × RollOutcome s rows number place blocks after)
+      RefusedBy (longRule s ∷ []) rows number place blocks after ⊎ (Accepted (longRule s ∷ []) × RollOutcome s rows number place blocks after)
   too-long-or-the-answer-for-the-roll number place blocks b =
-      by-either reports fastest rows (longRule s ∷ []) (rollRules s list) number place blocks after (the-first-line-tells-the-outcome number place blocks b)
+      ⊎-elim inl (λ p. inr (p .0 .accepted, p .1)) (by-either reports fastest rows (longRule s ∷ []) (rollRules s list) number place blocks after (the-first-line-tells-the-outcome number place blocks b))
 
   planned : (place blocks : ℕ) → Begins written 0 place blocks → RollOutcome s rows 0 place blocks after
   planned place blocks b = ⊎-elim (λ h. absurd (omega (arith, h .numbered))) (λ p. p .1) (too-long-or-the-answer-for-the-roll 0 place blocks b)
