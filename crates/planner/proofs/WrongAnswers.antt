@@ -6,6 +6,8 @@ use mathlib.Core.Path.{_≡_, ap}
 use mathlib.Core.List.{List, [], _∷_}
 use native.Mathlib.Omega.{arith}
 use lib.ListN.{getD, replicate}
+use Rattle.answers.specs.Numbers.{Proper}
+use Rattle.answers.specs.declared.Answer.the-variants.{Refused}
 use Rattle.critical.proofs.Table as Definitions
 use Rattle.rules.specs.Offsets.{Input}
 use Rattle.planner.specs.Outcome.{PlanOutcome}
@@ -18,6 +20,10 @@ pub no-refusal-touches-the-buffer :
     (x : Input) (number place blocks : ℕ) (after : List ℕ) →
     0 < number → (after ≡ x .buffer → ⊥) → PlanOutcome x number place blocks after → ⊥
 no-refusal-touches-the-buffer x number place blocks after h touched o = touched (a-refusal-writes-nothing x number place blocks after h o .2)
+
+-- A planner that refuses without a number. For an empty list 01's three numbers would let it pass, since they are those of a plan without blocks.
+pub not-refused-without-a-number : (place : ℕ) → Proper (Refused (record { number = 0; place = place })) → ⊥
+not-refused-without-a-number place p = omega (arith, p)
 
 -- Where one answer is right, another is not.
 module _ (x : Input) (number place blocks : ℕ) (after : List ℕ) (right : PlanOutcome x number place blocks after) where
