@@ -5,7 +5,7 @@
 -- left it: `rt ci` makes those checks first, in the same run from nothing, for all but the kit's libraries.
 use Prim.Native.Nat.{ℕ, zero, suc, _<_}
 use mathlib.Core.Path.{_≡_}
-use mathlib.Core.List.{List, [], _∷_, _++_}
+use mathlib.Core.List.{List, [], _∷_}
 use mathlib.Core.Logic.{_↔_, inl, inr}
 use native.Mathlib.Omega.{arith}
 use Rattle.trials.specs.Rules.{Refused}
@@ -17,7 +17,7 @@ use Rattle.critical.specs.Rows.{Row, Critical}
 use Rattle.critical.specs.Cost.{sumAt, Cost, Flatter, bill, NoHigher}
 use Rattle.critical.proofs.Theorems.{least-sum, least-cost, one-list-of-rows, first-failure, not-both}
 use Rattle.rules.specs.Offsets.{Input, reportsOf, fastestOf}
-use Rattle.rules.specs.Rules.{paceRule, overallRules, formRules, planRule, planRules}
+use Rattle.rules.specs.Rules.{paceRule, earlierRules, planRule, planRules}
 use Rattle.planner.specs.Outcome.{rowAt, planIn, WellFormed, Outcome, PlanOutcome}
 use Rattle.rules.proofs.Leaving.{good-pace}
 use Rattle.rules.proofs.Table.{works}
@@ -81,7 +81,7 @@ unfolding Outcome
 a-well-formed-list-is-refused-exactly-when-there-is-no-plan x zero place blocks after w o =
     (λ h. absurd (omega arith), λ none. absurd (none (planIn blocks after, o .2 .rows .plan .allowed)))
 a-well-formed-list-is-refused-exactly-when-there-is-no-plan x (suc k) place blocks after w o =
-    let nine = refused-by-nine (reportsOf x) (fastestOf x) (suc k) place (refused-behind (overallRules x ++ formRules (reportsOf x)) (planRule (reportsOf x) (fastestOf x) ∷ []) (suc k) place w (o .0)) in
+    let nine = refused-by-nine (reportsOf x) (fastestOf x) (suc k) place (refused-behind (earlierRules x) (planRule (reportsOf x) (fastestOf x) ∷ []) (suc k) place w (o .0)) in
     (λ h plan. not-both (reportsOf x) (fastestOf x) place plan (nine .1), λ none. omega arith)
 
 -- The refusal is then number 9, and its place the least i such that reports 0 to i by themselves have no allowed plan.
@@ -92,12 +92,12 @@ pub and-at-the-first-report-without-one :
 unfolding Outcome
 and-at-the-first-report-without-one x zero place blocks after w h o = absurd (omega arith)
 and-at-the-first-report-without-one x (suc k) place blocks after w h o =
-    refused-by-nine (reportsOf x) (fastestOf x) (suc k) place (refused-behind (overallRules x ++ formRules (reportsOf x)) (planRule (reportsOf x) (fastestOf x) ∷ []) (suc k) place w (o .0))
+    refused-by-nine (reportsOf x) (fastestOf x) (suc k) place (refused-behind (earlierRules x) (planRule (reportsOf x) (fastestOf x) ∷ []) (suc k) place w (o .0))
 
 -- ---- The inspector's three questions
 
 -- where rule 4 is silent, P/Q is positive
-pace-positive : (x : Input) → Passed (overallRules x ++ formRules (reportsOf x)) → Positive (fastestOf x)
+pace-positive : (x : Input) → Passed (earlierRules x) → Positive (fastestOf x)
 pace-positive x p = let pace : Quiet (paceRule (x .terms)) = search finding depth 40 in positive (reportsOf x) (x .terms) (good-pace pace) (x .buffer)
 
 -- "Was there a plan that kept every window?" Yes, where the planner gives one: in it every report finishes at or before its deadline, and none runs faster than P/Q.
@@ -116,7 +116,7 @@ pub how-do-you-know-there-is-none :
     ((T : Paces) → Allowed (reportsOf x) (fastestOf x) T → ⊥) × (whole (reportsOf x .deadline place) ≺ finish (reportsOf x) (steady (fastestOf x)) place)
 unfolding Outcome
 how-do-you-know-there-is-none x place blocks after o =
-    let split = by-another-rule (overallRules x ++ formRules (reportsOf x)) (planRule (reportsOf x) (fastestOf x) ∷ []) place (search others depth 40) (o .0) in
+    let split = by-another-rule (earlierRules x) (planRule (reportsOf x) (fastestOf x) ∷ []) place (search others depth 40) (o .0) in
     let nine = refused-by-nine (reportsOf x) (fastestOf x) 9 place (split .1) .1 in
     (λ T a. not-both (reportsOf x) (fastestOf x) place (T, a) nine, first-failure (reportsOf x) (fastestOf x) place (pace-positive x (split .0)) .0 nine .2)
 

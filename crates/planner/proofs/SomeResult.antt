@@ -2,14 +2,13 @@
 -- Assumes nothing.
 use Prim.Native.Nat.{ℕ, zero, suc, _+_, _*_, _≤_, _<_}
 use mathlib.Core.Path.{_≡_, refl, sym, _∙_}
-use mathlib.Core.List.{List, [], _∷_, _++_}
+use mathlib.Core.List.{List, [], _∷_}
 use mathlib.Core.Logic.{⊎-elim}
 use native.Mathlib.Omega.{arith}
 use native.Mathlib.Nat.{eq-or-lt-of-le, le-of-suc-le-suc, not-suc-le-zero, le-refl}
 use lib.ListN.{length, getD}
 use Rattle.answers.specs.Numbers.{width, numbersOf}
 use Rattle.answers.specs.declared.Row.{Row as Numbers}
-use Rattle.trials.specs.Rules.{Rule}
 use Rattle.trials.proofs.Passing.{Passed, Quiet, finding}
 use Rattle.trials.proofs.Deciding.{Gives, passed-or-given}
 use Rattle.fraction.specs.Fraction.{Fraction}
@@ -20,7 +19,7 @@ use Rattle.critical.proofs.Chain.{chain-same, behind-same, chain-critical}
 use Rattle.critical.proofs.Exists.{exists-chain}
 use Rattle.critical.proofs.Theorems.{room-decides, plan-or-refusal}
 use Rattle.rules.specs.Offsets.{Input, offset, reportsOf, fastestOf}
-use Rattle.rules.specs.Rules.{shortRule, paceRule, operationsRule, planRule, overallRules, formRules}
+use Rattle.rules.specs.Rules.{shortRule, paceRule, operationsRule, planRule, earlierRules}
 use Rattle.rules.proofs.Table.{decided}
 use Rattle.planner.specs.Outcome.{rowAt, Written, PlanOutcome}
 use Rattle.planner.specs.Inside.{putRow}
@@ -89,20 +88,17 @@ module _ (x : Input) where
   abbrev f : Fraction
   f = fastestOf x
 
-  abbrev form : List Rule
-  form = overallRules x ++ formRules ℓ
-
   Some : Type 0
   Some = (number : ℕ) × (place : ℕ) × (blocks : ℕ) × (after : List ℕ) × PlanOutcome x number place blocks after
 
   -- one of them is given
-  some-refusal : Gives form → Some
+  some-refusal : Gives (earlierRules x) → Some
   unfolding Some
   some-refusal g =
-      (g .number, g .place, 0, x .buffer, hands-up ℓ f (x .buffer) form (planRule ℓ f ∷ []) (record { refused = g .refused; numbered = g .numbered }))
+      (g .number, g .place, 0, x .buffer, hands-up ℓ f (x .buffer) (earlierRules x) (planRule ℓ f ∷ []) (record { refused = g .refused; numbered = g .numbered }))
 
   -- none is: rule 9 is given, or there are rows
-  some-plan : Passed form → Some
+  some-plan : Passed (earlierRules x) → Some
   unfolding Some
   some-plan p =
       let short : Quiet (shortRule (length (x .arrivals)) (length (x .buffer))) = search finding depth 40 in
@@ -117,14 +113,14 @@ module _ (x : Input) where
         0,
         w .0,
         w .1,
-        accepts ℓ f (x .buffer) form (w .0) (w .1) p (w .2),
+        accepts ℓ f (x .buffer) (earlierRules x) (w .0) (w .1) p (w .2),
       ))
       (λ (w : (i : ℕ) × FirstWithout ℓ f i). (
         9,
         w .0,
         0,
         x .buffer,
-        rejects ℓ f (x .buffer) form (w .0) p (w .1),
+        rejects ℓ f (x .buffer) (earlierRules x) (w .0) p (w .1),
       ))
       (plan-or-refusal ℓ f pos)
 

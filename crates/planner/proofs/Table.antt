@@ -12,7 +12,7 @@ use lib.Dec.{T}
 use lib.ListN.{length, getD, drop, replicate, length-append, length-drop}
 use lib.Seq.{getD-append-add, getD-drop}
 use Rattle.answers.specs.Numbers.{width}
-use Rattle.trials.specs.Rules.{Rule, Falls}
+use Rattle.trials.specs.Rules.{Falls}
 use Rattle.trials.proofs.Passing.{Passed, Quiet, finding}
 use Rattle.trials.proofs.Deciding.{Gives, Decided, dec-below, dec-equal, dec-not, dec-or, dec-falls, decides-none, decides-overall, decides-least, least-or-none, outcome, passed-or-given}
 use Rattle.fraction.specs.Fraction.{Fraction, _≺_, whole, over, plus, times, later}
@@ -23,7 +23,7 @@ use Rattle.critical.proofs.Tests.{Test, test-and, test-le, test-lt, test-eq, te
 use Rattle.critical.proofs.Table.{block}
 use Rattle.critical.proofs.Table as Definitions
 use Rattle.rules.specs.Offsets.{Input, reportsOf, fastestOf}
-use Rattle.rules.specs.Rules.{paceRule, planRule, overallRules, formRules}
+use Rattle.rules.specs.Rules.{paceRule, planRule, earlierRules}
 use Rattle.rules.specs.declared.Roll.{Roll}
 use Rattle.rules.proofs.Leaving.{good-pace}
 use Rattle.rules.proofs.Table.{decided}
@@ -165,10 +165,6 @@ module _ (x : Input) where
   abbrev f : Fraction
   f = fastestOf x
 
-  -- the rules before rule 9
-  abbrev form : List Rule
-  form = overallRules x ++ formRules ℓ
-
   -- there is room for the rows, and they are those of the plan wanted
   abbrev fit : (rows : List Row) → Test ((length (numbersIn rows) ≤ length (x .buffer)) × Critical ℓ f (length rows) (rowAt (after (planned rows) (x .buffer))))
   fit rows = test-and (test-le (length (numbersIn rows)) (length (x .buffer))) (test-critical ℓ f (length rows) (rowAt (after (planned rows) (x .buffer))))
@@ -181,30 +177,30 @@ module _ (x : Input) where
       (test-and (test-below place (λ j. test-≼ (finish ℓ (steady f) j) (whole (ℓ .deadline j)))) (test-≺ (whole (ℓ .deadline place)) (finish ℓ (steady f) place))))
 
   -- number and place are those that a rule before rule 9 gives
-  abbrev same : (g : Gives form) (number place : ℕ) → Test ((number ≡ g .number) × (place ≡ g .place))
+  abbrev same : (g : Gives (earlierRules x)) (number place : ℕ) → Test ((number ≡ g .number) × (place ≡ g .place))
   same g number place = test-and (test-eq number (g .number)) (test-eq place (g .place))
 
   -- a result, held against what the rules before rule 9 give
-  meets : Passed form ⊎ Gives form → Result → Bool
+  meets : Passed (earlierRules x) ⊎ Gives (earlierRules x) → Result → Bool
   meets (inl p) (planned rows) = fit rows .bit
   meets (inl p) (refused number place) = stop number place .bit
   meets (inr g) (planned rows) = false
   meets (inr g) (refused number place) = same g number place .bit
 
   -- a result that meets it is what the promise gives
-  sound : (s : Passed form ⊎ Gives form) (r : Result) → T (meets s r) → Gets x r
+  sound : (s : Passed (earlierRules x) ⊎ Gives (earlierRules x)) (r : Result) → T (meets s r) → Gets x r
   unfolding meets
   sound (inl p) (planned rows) t =
       let s = fit rows .sound t in
-      accepts ℓ f (x .buffer) form (length rows) (after (planned rows) (x .buffer)) p (written ℓ f rows (x .buffer) (s .0) (s .1))
+      accepts ℓ f (x .buffer) (earlierRules x) (length rows) (after (planned rows) (x .buffer)) p (written ℓ f rows (x .buffer) (s .0) (s .1))
   sound (inl p) (refused number place) t =
       let s = stop number place .sound t in
       let pace : Quiet (paceRule (x .terms)) = search finding depth 40 in
-      rw (s .0) (rejects ℓ f (x .buffer) form place p (stops-first ℓ f (positive ℓ (x .terms) (good-pace pace) (x .buffer)) place (s .1 .0) (s .1 .1 .0) (s .1 .1 .1)))
+      rw (s .0) (rejects ℓ f (x .buffer) (earlierRules x) place p (stops-first ℓ f (positive ℓ (x .terms) (good-pace pace) (x .buffer)) place (s .1 .0) (s .1 .1 .0) (s .1 .1 .1)))
   sound (inr g) (planned rows) t = absurd t
   sound (inr g) (refused number place) t =
       let s = same g number place .sound t in
-      rw (s .0, s .1) (hands-up ℓ f (x .buffer) form (planRule ℓ f ∷ []) (record { refused = g .refused; numbered = g .numbered }))
+      rw (s .0, s .1) (hands-up ℓ f (x .buffer) (earlierRules x) (planRule ℓ f ∷ []) (record { refused = g .refused; numbered = g .numbered }))
 
 -- the rules before rule 9 are decided by computing, and so is the rest
 test : Entry → Bool

@@ -2,7 +2,7 @@
 -- Assumes nothing.
 use Prim.Native.Nat.{ℕ, zero, suc, _+_, _*_, _≤_, _<_}
 use mathlib.Core.Path.{_≡_}
-use mathlib.Core.List.{List, _++_}
+use mathlib.Core.List.{List}
 use lib.ListN.{length, getD}
 use Rattle.fraction.specs.Fraction.{Fraction}
 use Rattle.critical.specs.Reports.{Reports, Paces}
@@ -10,7 +10,7 @@ use Rattle.critical.specs.Rows.{Row, planOf, Critical}
 use Rattle.rules.specs.Offsets.{Input, reportsOf, fastestOf}
 use Rattle.answers.specs.Numbers.{width}
 use Rattle.trials.specs.Rules.{Rule, Refused, Accepted}
-use Rattle.rules.specs.Rules.{overallRules, formRules, planRules}
+use Rattle.rules.specs.Rules.{earlierRules, planRules}
 
 -- Number j of row k of a buffer.
 abbrev pub numberAt : List ℕ → ℕ → ℕ → ℕ
@@ -49,7 +49,7 @@ planIn blocks after = planOf blocks (rowAt after)
 
 -- A well-formed list with room: none of the rules 1 to 8 is given.
 abbrev pub WellFormed : Input → Type 0
-WellFormed x = Accepted (overallRules x ++ formRules (reportsOf x))
+WellFormed x = Accepted (earlierRules x)
 
 -- A refusal by some of the rules: it has a number, there are no blocks, and the buffer is as it was.
 pub record RefusedBy (rules : List Rule) (before : List ℕ) (number place blocks : ℕ) (after : List ℕ) : Type 0 where

@@ -4,7 +4,7 @@
 -- Nothing is assumed.
 use Prim.Native.Nat.{ℕ, _+_, _*_, _≤_}
 use mathlib.Core.Path.{_≡_, sym, _∙_, ap, ap₂, subst}
-use mathlib.Core.List.{List, [], _∷_, _++_}
+use mathlib.Core.List.{List, [], _∷_}
 use mathlib.Core.Logic.{_⊎_, inl, inr, ⊎-elim}
 use native.Mathlib.Omega.{arith}
 use lib.ListN.{length, take, drop}
@@ -20,7 +20,7 @@ use Rattle.planner.specs.Outcome.{planIn, RefusedBy}
 use Rattle.planner.proofs.Outcomes.{by-either}
 use Rattle.roll.specs.Format.{inputOf, rollRules, RollOutcome}
 use Rattle.roll.proofs.Demands as Of
-use Rattle.text.specs.Text.{Puts, firstLine, rowLines, planText, textRoom}
+use Rattle.text.specs.Text.{Puts, rowLines, planText, textRoom}
 use Rattle.text.proofs.FirstLine.{one-first-line}
 use Rattle.rolltext.specs.Program.{longRule, ProgramOutcome, Says, Begins}
 use Rattle.rolltext.proofs.Buffers.{said-in-full}
@@ -53,9 +53,12 @@ module _ (s rows out : List ℕ) (r : ℕ) (after text : List ℕ) (says : Says 
   pub it-begins : Begins written (says .number) (says .place) (says .blocks)
   it-begins = record { rest = rowLines after (says .blocks); is = written-is }
 
+  told : (number place blocks : ℕ) → Begins written number place blocks → (says .number ≡ number) × (says .place ≡ place) × (says .blocks ≡ blocks)
+  told number place blocks b = one-first-line (says .number) (says .place) (says .blocks) number place blocks (rowLines after (says .blocks)) (b .rest) (sym written-is ∙ b .is)
+
   pub the-first-line-tells-the-outcome : (number place blocks : ℕ) → Begins written number place blocks → ProgramOutcome s rows number place blocks after
   the-first-line-tells-the-outcome number place blocks b =
-      let e = one-first-line (says .number) (says .place) (says .blocks) number place blocks (rowLines after (says .blocks)) (b .rest) (sym written-is ∙ b .is) in
+      let e = told number place blocks b in
       subst (λ (k : ℕ). ProgramOutcome s rows k place blocks after) (e .0)
       (subst (λ (k : ℕ). ProgramOutcome s rows (says .number) k blocks after) (e .1)
       (subst (λ (k : ℕ). ProgramOutcome s rows (says .number) (says .place) k after) (e .2) (says .outcome)))
@@ -84,7 +87,7 @@ module _ (s rows out : List ℕ) (r : ℕ) (after text : List ℕ) (says : Says 
 
   pub the-lines-that-follow-are-the-rows : (place blocks : ℕ) → Begins written 0 place blocks → written ≡ planText 0 place blocks after
   the-lines-that-follow-are-the-rows place blocks b =
-      let e = one-first-line (says .number) (says .place) (says .blocks) 0 place blocks (rowLines after (says .blocks)) (b .rest) (sym written-is ∙ b .is) in
+      let e = told 0 place blocks b in
       written-is ∙ ap (λ (k : ℕ). planText k (says .place) (says .blocks) after) (e .0)
       ∙ ap (λ (k : ℕ). planText 0 k (says .blocks) after) (e .1) ∙ ap (λ (k : ℕ). planText 0 place k after) (e .2)
 

@@ -17,7 +17,7 @@ use Rattle.critical.specs.Reports.{start}
 use Rattle.critical.specs.Rows.{holder, behind, sum, Critical}
 use Rattle.critical.proofs.Tests.{test-critical}
 use Rattle.rules.specs.Offsets.{Input, reportsOf, fastestOf}
-use Rattle.rules.specs.Rules.{overallRules, formRules}
+use Rattle.rules.specs.Rules.{earlierRules}
 use Rattle.planner.specs.Outcome.{rowAt, Written}
 use Rattle.planner.proofs.Outcomes.{accepts}
 use Rattle.roll.specs.Format.{fileRules, inputOf}
@@ -70,16 +70,16 @@ module _ (b : List ℕ) where
       same i l = omega arith
 
   -- the rules before rule 9 can be decided,
-  unfoldable decides-sample : width * 2 ≤ length b → Decides (longRule sample ∷ (fileRules sample ++ (overallRules x ++ formRules (reportsOf x))))
+  unfoldable decides-sample : width * 2 ≤ length b → Decides (longRule sample ∷ (fileRules sample ++ earlierRules x))
   unfolding sample listed
   decides-sample h = let room : Decidable (length b < width * length (x .arrivals)) = record { decided = inr (λ l. omega (arith, h, l)) } in search (deciding, dec-marked) depth 60
 
   -- and none is given, which is computed
-  sample-form : width * 2 ≤ length b → Passed (longRule sample ∷ (fileRules sample ++ (overallRules x ++ formRules (reportsOf x))))
+  sample-form : width * 2 ≤ length b → Passed (longRule sample ∷ (fileRules sample ++ earlierRules x))
   unfolding sample listed decides-sample passes Decided dec-below dec-equal dec-not dec-or dec-falls dec-marked decides-none decides-overall decides-least least-or-none Falls ℕ-discrete decLt
   sample-form h = passed-by (decides-sample h) tt
 
   -- The sample is accepted, with the two rows of 01.
   pub sample-outcome : width * 2 ≤ length b → ProgramOutcome sample b 0 0 2 (planned b)
   sample-outcome h =
-      accepts (reportsOf x) (fastestOf x) b (longRule sample ∷ (fileRules sample ++ (overallRules x ++ formRules (reportsOf x)))) 2 (planned b) (sample-form h) (sample-written h)
+      accepts (reportsOf x) (fastestOf x) b (longRule sample ∷ (fileRules sample ++ earlierRules x)) 2 (planned b) (sample-form h) (sample-written h)

@@ -2,7 +2,7 @@
 -- Assumes nothing.
 use Prim.Native.Nat.{ℕ}
 use mathlib.Core.Path.{_≡_}
-use mathlib.Core.List.{List, _∷_, _++_}
+use mathlib.Core.List.{List, _∷_}
 use Rattle.trials.specs.Rules.{Rule}
 use Rattle.trials.specs.Tries.{After}
 use Rattle.trials.specs.declared.Verdict.{Verdict}
@@ -14,7 +14,7 @@ use Rattle.critical.specs.Reports.{Reports, Working}
 use Rattle.critical.proofs.Theorems.{one-place}
 use Rattle.rules.specs.declared.Roll.{Roll}
 use Rattle.rules.specs.Offsets.{Input, reportsOf}
-use Rattle.rules.specs.Rules.{countRules, operationsRule, planRule, overallRules, formRules, planRules}
+use Rattle.rules.specs.Rules.{countRules, operationsRule, planRule, earlierRules, planRules}
 use Rattle.rules.proofs.Leaving.{working}
 
 -- rule 9 is given with one place, as the others are
@@ -32,7 +32,7 @@ pub one-count-verdict :
 one-count-verdict so-far arrivals deadlines operations terms room r s = one-after so-far r s (search singly depth 40)
 
 -- the rules before the last can be decided
-unfoldable pub decided : (x : Input) → Decides (overallRules x ++ formRules (reportsOf x))
+unfoldable pub decided : (x : Input) → Decides (earlierRules x)
 decided x = search deciding depth 40
 
 -- an accepted list has reports with something to do

@@ -76,5 +76,9 @@ reportRules ℓ fastest = formRules ℓ ++ (planRule ℓ fastest ∷ [])
 abbrev pub overallRules : Input → List Rule
 overallRules x = countRules (length (x .arrivals)) (length (x .deadlines)) (length (x .operations)) (x .terms) (length (x .buffer))
 
+-- Rules 1 to 8: all of them but the last.
+abbrev pub earlierRules : Input → List Rule
+earlierRules x = overallRules x ++ formRules (reportsOf x)
+
 abbrev pub planRules : Input → List Rule
 planRules x = overallRules x ++ reportRules (reportsOf x) (fastestOf x)

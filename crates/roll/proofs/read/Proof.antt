@@ -20,7 +20,7 @@ use prog.Wp.{Heap, Env, Calls, Loops, Wp, WpFn, Tables, afterSeq, atReturn}
 use ghost.Atoms.{Atoms, sem}
 use contract.Monad.{Fun, fact, factI}
 use contract.Running.{givenOf, tables, tablesOf}
-use types.Kit.{Given, Item, Post as Ends, Sq, prop, runs, frees, anyQ, atRet, ‵, raw, _⊛_, ⋆, _$_, _∵_, !, qed, by, move, drop, use0, use1, use2, split, join, fsplit, fjoin, suffices, frame, done}
+use types.Kit.{Given, Item, Post as Ends, Sq, prop, runs, frees, anyQ, atRet, ‵, raw, _⊛_, ⋆, _$_, _∵_, !, qed, by, move, drop, use0, use2, split, join, fsplit, fjoin, suffices, frame, done}
 use types.Part.{agg, whole, look-in}
 use types.Match.{vrt, look-tag, in-variant}
 use types.Run.{look, init, forget, stop, fld, from, load, of-opd, and-then, no-more, assigns, assigns-last, land, first, switches-on, exec, returns, returns-within, enter, alloc1, alloc0, params1, pass1, pass0, free1, free0}
@@ -30,7 +30,7 @@ use denote.Laws.{Is}
 use denote.Builtin.{u8}
 use denote.Ref.{RefT, NamedLft, now}
 use denote.Signature.{plain, namedLft}
-use denote.Slice.{sliceTy, sliceVal, ShrSlice, slice-vals, shr-slice-tells, shr-slice-lawful, shr-slice-copy}
+use denote.Slice.{sliceTy, sliceVal, ShrSlice, slice-vals, shr-slice-tells, shr-slice-lawful}
 use denote.Steps.{owned, nothing}
 use denote.Enum.Laws as EL
 use denote.Struct.Laws as LL
@@ -49,7 +49,7 @@ use Rattle.roll.specs.declared.TrailerAnswer.{TrailerAnswer}
 use Rattle.roll.specs.declared.TrailerAnswer.the-variants.{Is as There, Not}
 use Rattle.roll.proofs.FileRules.{refuses-file, refused-part}
 use Rattle.roll.proofs.HandsBack.{refused-numbers}
-use Rattle.roll.proofs.Walking.{met, asks}
+use Rattle.roll.proofs.Walking.{met, asks, lends}
 use Rattle.roll.proofs.Trailer as B
 use Rattle.roll.proofs.TrailerAnswer as D
 use Rattle.roll.proofs.Numbers as N
@@ -145,18 +145,15 @@ module _ {M : Type 1} (𝓤 : URA M) (H : Heap 𝓤) (A : Atoms 𝓤) (W : Given
   abbrev to-answer : TrailerAnswer → NumbersRefused 𝓤 H A mem run .Ghost
   to-answer a = ((tt, tt, tt, (a, tt), (val a ∷ [], tt)), tt)
 
-  -- what a callee asks that takes the file first is had of the token and of one copy of what the file owns, and the other copy is kept. What else it asks, P and R, is had for nothing
-  lends : (P : Fml) (R : SProp 𝓤) → ent 𝓤 (emp 𝓤) (sem 𝓤 H A P) → ent 𝓤 (emp 𝓤) R
-      → ent 𝓤 (⋆ 𝓤 H A (Token ∷ ‵ Own ∷ [])) (sep 𝓤 (sep 𝓤 (sep 𝓤 (alive 𝓤 H A read.signature (κ, tt) (q, tt)) (sem 𝓤 H A (fsep Own P))) R) (sem 𝓤 H A Own))
-  lends P R p r =
-      qed W (Token ∷ ‵ Own ∷ []) ∵ move ! (1 ∷ []) $ use1 W (‵ Own ⊛ ‵ Own) (shr-slice-copy 𝓤 H A W (named 0) κ u8 .twice s (v ∷ [])) $ split ! $
-      use0 W (‵ P) p $ move ! (1 ∷ 0 ∷ []) $ fjoin ! $ move ! (2 ∷ 0 ∷ []) $ join ! $ use0 W (raw R) r $ move ! (1 ∷ 0 ∷ []) $ join ! $ frame ! $ done !
+  -- what a callee asks that takes the file alone
+  lends-it : ent 𝓤 (⋆ 𝓤 H A (Token ∷ ‵ Own ∷ [])) (sep 𝓤 (ReadTrailer 𝓤 H A mem run .pre to-file) (sem 𝓤 H A Own))
+  lends-it = lends 𝓤 H A W (alive 𝓤 H A read.signature (κ, tt) (q, tt)) κ s v ftrue (emp 𝓤) (id⊢ 𝓤 _) (id⊢ 𝓤 _)
 
-  -- so with the trailer, where it is there
+  -- and with the trailer, where it is there
   lends-both : (t : Trailer) → Is B.the-row t (B.Laws.lowered t ∷ []) → TrailerAnswerIs (now s) (There t)
       → ent 𝓤 (⋆ 𝓤 H A (Token ∷ ‵ Own ∷ [])) (sep 𝓤 (NumbersOf 𝓤 H A mem run .pre (to-both t)) (sem 𝓤 H A Own))
   lends-both t is e =
-      lends (fsep (B.the-row .own t (B.Laws.lowered t ∷ [])) ftrue) (fact 𝓤 (TrailerAnswerIs (now s) (There t)))
+      lends 𝓤 H A W (alive 𝓤 H A read.signature (κ, tt) (q, tt)) κ s v (fsep (B.the-row .own t (B.Laws.lowered t ∷ [])) ftrue) (fact 𝓤 (TrailerAnswerIs (now s) (There t)))
       (qed W [] ∵ nothing ! $ owned ! B.the-row (Is B.the-row) (LL.makes B.the-type B.Laws.the-plain 𝓤 H A) t _ is $ done !) (factI 𝓤 _ (emp 𝓤) e)
 
   -- what `numbers_refused` asks is had for nothing
@@ -230,7 +227,7 @@ module _ {M : Type 1} (𝓤 : URA M) (H : Heap 𝓤) (A : Atoms 𝓤) (W : Given
           (and-then ! (load ! (from ! (stop !)) (look ! 13 refl)) (no-more !)) (λ n is-n e-n.
           -- [what the numbers own; no token; the token; what file owns; room for _7; …; room for _3; …; _2; …; _1; …; room for _0; …]
           land ! (from ! (stop !)) (init ! 10 refl (LL.lawful N.the-type N.Laws.the-laws 𝓤 H A W .typed n _ is-n .0)) $
-          move ! (1 ∷ []) $ drop ! $ move ! (1 ∷ 2 ∷ []) $ use2 W (raw (NoPart 𝓤 H A mem run .pre to-file) ⊛ ‵ Own) (lends ftrue (emp 𝓤) (id⊢ 𝓤 _) (id⊢ 𝓤 _)) $ split ! $
+          move ! (1 ∷ []) $ drop ! $ move ! (1 ∷ 2 ∷ []) $ use2 W (raw (NoPart 𝓤 H A mem run .pre to-file) ⊛ ‵ Own) lends-it $ split ! $
           -- [what `no_part` asks; what file owns; what the numbers own; room for _7, _6, _5; …; _4; …; room for _3; …; _2; …; _1; …; room for _0; …]
           asks ! fm no-part.ended (no-part.clauses 𝓤 H A mem run) (known .no-part-is) to-file sv (shr-slice-tells (named 0) κ u8) (λ p. PartFrom s 0 0 p) (λ _ _. id⊢ 𝓤 _)
           (and-then ! (load ! (from ! (stop !)) (look ! 15 refl)) (no-more !)) (λ p is-p e-p.
@@ -247,7 +244,7 @@ module _ {M : Type 1} (𝓤 : URA M) (H : Heap 𝓤) (A : Atoms 𝓤) (W : Given
         alloc1 ! (λ l₀. alloc1 ! (λ l₁. alloc1 ! (λ l₂. alloc1 ! (λ l₃. alloc1 ! (λ l₄. alloc1 ! (λ l₅. alloc1 ! (λ l₆. alloc1 ! (λ l₇. alloc0 ! $ params1 ! $
         pass1 ! (init ! 12 refl (shr-slice-lawful 𝓤 H A W (named 0) κ u8 .typed s (v ∷ []) is .0)) $ pass0 ! $
         -- [room for _7; …; room for _2; …; _1; …; room for _0; …; the token; what file owns]
-        move ! (17 ∷ []) $ fsplit ! $ move ! (1 ∷ []) $ drop ! $ move ! (17 ∷ 0 ∷ []) $ use2 W (raw (ReadTrailer 𝓤 H A mem run .pre to-file) ⊛ ‵ Own) (lends ftrue (emp 𝓤) (id⊢ 𝓤 _) (id⊢ 𝓤 _)) $ split ! $
+        move ! (17 ∷ []) $ fsplit ! $ move ! (1 ∷ []) $ drop ! $ move ! (17 ∷ 0 ∷ []) $ use2 W (raw (ReadTrailer 𝓤 H A mem run .pre to-file) ⊛ ‵ Own) lends-it $ split ! $
         -- [what `read_trailer` asks; what file owns; room for _7; …; room for _2; …; _1; …; room for _0; …]
         asks ! fm read-trailer.ended (read-trailer.clauses 𝓤 H A mem run) (known .read-trailer-is) to-file val (EL.tells D.the-type D.Laws.the-laws) (λ a. TrailerAnswerIs (now s) a) (λ _ _. id⊢ 𝓤 _)
         (and-then ! (load ! (from ! (stop !)) (look ! 14 refl)) (no-more !)) (λ a is-a e. drop ! $
