@@ -39,6 +39,8 @@ impl Refusal {
     pub const TOO_FAR: u32 = 13;
     // The program's input is too long.
     pub const TOO_LONG: u32 = 14;
+    // The buffer that a roll is to be written into has too little room behind the place.
+    pub const NO_ROOM: u32 = 15;
 }
 
 // The answer: the block count, or the refusal.

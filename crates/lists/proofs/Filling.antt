@@ -17,7 +17,7 @@ unfolding listed
 length-listed zero f = refl
 length-listed (suc n) f = length-append (listed n f) (f n ∷ []) ∙ ap (λ (k : ℕ). k + 1) (length-listed n f) ∙ add-one n
 
-getD-listed : (n : ℕ) (f : ℕ → ℕ) (k : ℕ) → k < n → getD (listed n f) k 0 ≡ f k
+pub getD-listed : (n : ℕ) (f : ℕ → ℕ) (k : ℕ) → k < n → getD (listed n f) k 0 ≡ f k
 unfolding listed
 getD-listed zero f k h = absurd (not-suc-le-zero h)
 getD-listed (suc n) f k h =
@@ -29,7 +29,7 @@ getD-listed (suc n) f k h =
     (eq-or-lt-of-le (le-of-suc-le-suc h))
 
 -- what a list is that has these numbers
-as-listed : (l : List ℕ) (n : ℕ) (f : ℕ → ℕ) → length l ≡ n → ((k : ℕ) → k < n → getD l k 0 ≡ f k) → l ≡ listed n f
+pub as-listed : (l : List ℕ) (n : ℕ) (f : ℕ → ℕ) → length l ≡ n → ((k : ℕ) → k < n → getD l k 0 ≡ f k) → l ≡ listed n f
 as-listed l n f e h = ext-getD 0 l (listed n f) (e ∙ sym (length-listed n f)) (λ k s. let d : k < n = omega (arith, e, s) in h k d ∙ sym (getD-listed n f k d))
 
 -- a list made by a function from another

@@ -1,3 +1,4 @@
 pub mod Filling
 pub mod Copying
+pub mod Putting
 pub mod Splitting

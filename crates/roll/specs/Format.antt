@@ -36,9 +36,13 @@ abbrev pub qOf : List ℕ → ℕ
 qOf s = u16At s (length s - 4)
 
 -- The mark is the two bytes 41 51 in hexadecimal.
+abbrev pub mark : List ℕ
+mark = 0x41 ∷ 0x51 ∷ []
+
+-- It stands at the roll's end.
 pub record Marked (s : List ℕ) : Type 0 where
-  pub a : getD s (length s - 2) 0 ≡ 0x41
-  pub q : getD s (length s - 1) 0 ≡ 0x51
+  pub a : getD s (length s - 2) 0 ≡ getD mark 0 0
+  pub q : getD s (length s - 1) 0 ≡ getD mark 1 0
 
 -- 10: shorter than 16 bytes.
 abbrev pub shortRule : List ℕ → Rule

@@ -17,7 +17,8 @@ use Rattle.lists.proofs.Filling.{length-map}
 use Rattle.rules.proofs.Leaving.{few-reports}
 use Rattle.roll.specs.Format.{inputOf, recordsOf, countOf}
 use Rattle.roll.proofs.Rolls.{column-long}
-use Rattle.text.specs.Text.{Puts, Room, planText, textRoom}
+use Rattle.lists.specs.Puts.{Puts}
+use Rattle.text.specs.Text.{Room, planText, textRoom}
 use Rattle.rolltext.specs.Program.{programRules, ProgramOutcome, Says}
 
 module _ (s buffer : List ℕ) where

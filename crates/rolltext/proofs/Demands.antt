@@ -20,7 +20,8 @@ use Rattle.planner.specs.Outcome.{planIn, RefusedBy}
 use Rattle.planner.proofs.Outcomes.{by-either}
 use Rattle.roll.specs.Format.{inputOf, rollRules, RollOutcome}
 use Rattle.roll.proofs.Demands as Of
-use Rattle.text.specs.Text.{Puts, rowLines, planText, textRoom}
+use Rattle.lists.specs.Puts.{Puts}
+use Rattle.text.specs.Text.{rowLines, planText, textRoom}
 use Rattle.text.proofs.FirstLine.{one-first-line}
 use Rattle.rolltext.specs.Program.{longRule, ProgramOutcome, Says, Begins}
 use Rattle.rolltext.proofs.Buffers.{said-in-full}

@@ -59,7 +59,7 @@ impl Roll {
 }
 
 // Whether three lists differ in length.
-fn uneven(arrivals: usize, deadlines: usize, operations: usize) -> bool
+pub fn uneven(arrivals: usize, deadlines: usize, operations: usize) -> bool
     ensures { λ r. ⌜ Tells ((arrivals ≡ deadlines → ⊥) ⊎ (arrivals ≡ operations → ⊥)) r ⌝ }
 {
     if arrivals != deadlines {

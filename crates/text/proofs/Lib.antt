@@ -1,5 +1,4 @@
 pub mod Decimal
-pub mod Putting
 pub mod Spaced
 pub mod PlanText
 pub mod FirstLine

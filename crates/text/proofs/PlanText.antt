@@ -8,8 +8,9 @@ use native.Mathlib.Omega.{arith}
 use lib.ListN.{length, take, drop}
 use Rattle.answers.specs.Numbers.{width}
 use Rattle.fraction.proofs.Scale.{cases}
-use Rattle.text.specs.Text.{Puts, firstLine, rowLines, planText, textRoom, Room, TextIs}
-use Rattle.text.proofs.Putting.{puts-then}
+use Rattle.lists.specs.Puts.{Puts}
+use Rattle.text.specs.Text.{firstLine, rowLines, planText, textRoom, Room, TextIs}
+use Rattle.lists.proofs.Putting.{puts-then}
 
 module _ {number place blocks : ℕ} {rows before : List ℕ} where
   -- without room

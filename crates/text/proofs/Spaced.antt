@@ -5,8 +5,9 @@ use mathlib.Core.Path.{_≡_, refl, sym}
 use mathlib.Core.List.{List, [], _∷_, _++_, append-assoc}
 use native.Mathlib.Omega.{arith}
 use lib.ListN.{length, getD}
-use Rattle.text.specs.Text.{Puts, decimal, line}
-use Rattle.text.proofs.Putting.{Turns, puts-as, puts-then}
+use Rattle.lists.specs.Puts.{Puts}
+use Rattle.text.specs.Text.{decimal, line}
+use Rattle.lists.proofs.Putting.{Turns, puts-as, puts-then}
 
 -- the first i numbers, with a space behind each
 unfoldable pub spaced : List ℕ → ℕ → List ℕ

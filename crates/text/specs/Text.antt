@@ -7,6 +7,7 @@ use mathlib.Core.Bool.{cond}
 use mathlib.Core.List.{List, [], _∷_, _++_}
 use lib.Dec.{ltb}
 use lib.ListN.{length, take, drop}
+use Rattle.lists.specs.Puts.{Puts}
 use Rattle.io.specs.Digits.{digits}
 use Rattle.answers.specs.Numbers.{width}
 
@@ -24,11 +25,6 @@ unfoldable pub line : List ℕ → List ℕ
 line [] = 10 ∷ []
 line (n ∷ []) = decimal n ++ (10 ∷ [])
 line (n ∷ m ∷ ns) = decimal n ++ (32 ∷ line (m ∷ ns))
-
--- Text put into a buffer from a place on: nothing else of the buffer is written, and the place behind the text comes back.
-pub record Puts (before : List ℕ) (at : ℕ) (text : List ℕ) (r : ℕ) (after : List ℕ) : Type 0 where
-  pub behind : r ≡ at + length text
-  pub written : after ≡ take at before ++ (text ++ drop (at + length text) before)
 
 -- A block's line: the numbers of row k of a buffer.
 abbrev pub rowLine : List ℕ → ℕ → List ℕ

@@ -5,7 +5,8 @@ ghost use mathlib.Core.Path.{_≡_};
 ghost use Prim.Native.Nat.{_+_, _*_, _≤_};
 ghost use lib.ListN.{length, take, drop};
 ghost use Rattle.answers.specs.Numbers.{width};
-ghost use Rattle.text.specs.Text.{firstLine, rowLine, rowLines, lineRoom, textRoom, Puts};
+ghost use Rattle.lists.specs.Puts.{Puts};
+ghost use Rattle.text.specs.Text.{firstLine, rowLine, rowLines, lineRoom, textRoom};
 
 // The first line: its word, and three numbers.
 pub fn put_first(number: u64, place: u64, blocks: u64, out: &mut [u8], at: usize) -> usize

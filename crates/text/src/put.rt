@@ -2,7 +2,8 @@
 ghost use Prim.Native.Nat.{_+_, _≤_};
 ghost use mathlib.Core.List.{[], _∷_, _++_};
 ghost use lib.ListN.{length};
-ghost use Rattle.text.specs.Text.{decimal, line, lineRoom, Puts};
+ghost use Rattle.lists.specs.Puts.{Puts};
+ghost use Rattle.text.specs.Text.{decimal, line, lineRoom};
 
 pub fn put(text: &[u8], out: &mut [u8], at: usize) -> usize
     requires { ⌜ at + length (now text) ≤ length (now out) ⌝ }

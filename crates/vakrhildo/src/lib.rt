@@ -1,12 +1,19 @@
-// The library for other languages: the planner's two entry points and the roll's reader under plain
-// names, over numbers and slices. include/vakrhildo.h declares them for C, outside/vakrhildo wraps them
-// for Rust. The promises are those of planner::plan, roll::plan_roll and roll::read, in 01's numbers.
+// The library for other languages: the planner's two entry points, the roll's reader and its writer under
+// plain names, over numbers and slices. include/vakrhildo.h declares them for C, outside/vakrhildo wraps
+// them for Rust. The promises are those of planner::plan, roll::plan_roll, roll::read and writer::write,
+// in 01's numbers.
 use answers::Reply;
 use roll::Numbers;
 use rules::Roll;
+use writer::WriteReply;
+ghost use mathlib.Core.Path.{_≡_};
+ghost use Prim.Native.Nat.{_+_};
+ghost use lib.ListN.{take};
 ghost use Rattle.planner.specs.Outcome.{PlanOutcome};
 ghost use Rattle.roll.specs.Format.{RollOutcome};
 ghost use Rattle.roll.specs.Answers.{NumbersIs};
+ghost use Rattle.writer.specs.Bytes.{ReadsBack};
+ghost use Rattle.writer.specs.Writing.{WriteOutcome};
 
 // Plans a list: three lists of readings, the reference, P and Q, and a buffer for rows.
 #[no_mangle]
@@ -42,4 +49,24 @@ pub extern "C" fn vakrhildo_read(file: &[u8]) -> Numbers
 {
     let reading = roll::read(file);
     reading.numbers
+}
+
+// Writes the roll of a list into a buffer of bytes, from a place on: three lists of readings, the
+// reference, P and Q.
+#[no_mangle]
+pub extern "C" fn vakrhildo_write(
+    arrivals: &[u32],
+    deadlines: &[u32],
+    operations: &[u32],
+    reference: u32,
+    p: u32,
+    q: u32,
+    out: &mut [u8],
+    at: usize,
+) -> WriteReply
+    ensures { λ r. ⌜ WriteOutcome (record { arrivals = now (arrivals .entry); deadlines = now (deadlines .entry); operations = now (operations .entry); terms = record { reference = reference; p = p; q = q } }) (now (out .entry)) at (r .number) (r .place) (r .bytes) (now (out .exit)) ⌝ }
+    ensures { λ r. ⌜ r .number ≡ 0 → ReadsBack (take (at + r .bytes) (now (out .exit))) (record { arrivals = now (arrivals .entry); deadlines = now (deadlines .entry); operations = now (operations .entry); terms = record { reference = reference; p = p; q = q } }) ⌝ }
+{
+    let terms = Roll { reference, p, q };
+    writer::write(arrivals, deadlines, operations, terms, out, at)
 }

@@ -1,6 +1,6 @@
 -- `text::lines::put_first` meets its contract: the word, and the line of three numbers.
 -- Assumes nothing.
-use Rattle.text.proofs.Putting.{puts-then}
+use Rattle.lists.proofs.Putting.{puts-then}
 use borrow.Author.Needs.{needs}
 use Rattle.text.proofs.lines.put_first.Statement.{statement}
 use Rattle.text.proofs.lines.put_first.Tie as tie

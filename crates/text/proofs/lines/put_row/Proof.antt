@@ -2,7 +2,7 @@
 -- Assumes nothing.
 use mathlib.Core.Path.{ap}
 use Rattle.text.specs.Text.{line}
-use Rattle.text.proofs.Putting.{puts-as}
+use Rattle.lists.proofs.Putting.{puts-as}
 use borrow.Author.Needs.{needs}
 use Rattle.text.proofs.lines.put_row.Statement.{statement}
 use Rattle.text.proofs.lines.put_row.Tie as tie

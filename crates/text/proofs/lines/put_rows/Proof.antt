@@ -4,7 +4,7 @@ use Prim.Native.Nat.{_-_, _≤_}
 use mathlib.Core.Path.{refl}
 use Rattle.answers.specs.Numbers.{width}
 use Rattle.text.specs.Text.{lineRoom, rowLines}
-use Rattle.text.proofs.Putting.{Turns, no-turn, one-turn, all-turns}
+use Rattle.lists.proofs.Putting.{Turns, no-turn, one-turn, all-turns}
 use borrow.Author.Needs.{needs}
 use Rattle.text.proofs.lines.put_rows.Statement.{statement}
 use Rattle.text.proofs.lines.put_rows.Tie as tie

@@ -1,6 +1,6 @@
 -- `text::put::put` meets its contract: the text is copied into the rest of the buffer.
 -- Assumes nothing.
-use Rattle.text.proofs.Putting.{puts}
+use Rattle.lists.proofs.Putting.{puts}
 use borrow.Author.Needs.{needs}
 use Rattle.text.proofs.put.put.Statement.{statement}
 use Rattle.text.proofs.put.put.Tie as tie

@@ -1,6 +1,6 @@
 -- `text::put::put_ended` meets its contract: the number, and its byte behind it.
 -- Assumes nothing.
-use Rattle.text.proofs.Putting.{puts-then, puts-byte}
+use Rattle.lists.proofs.Putting.{puts-then, puts-byte}
 use borrow.Author.Needs.{needs}
 use Rattle.text.proofs.put.put_ended.Statement.{statement}
 use Rattle.text.proofs.put.put_ended.Tie as tie

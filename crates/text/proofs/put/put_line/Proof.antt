@@ -4,7 +4,7 @@ use Prim.Native.Nat.{_≤_, _+_, _-_}
 use mathlib.Core.Path.{_≡_, refl}
 use lib.ListN.{length}
 use Rattle.text.specs.Text.{lineRoom}
-use Rattle.text.proofs.Putting.{Turns, no-turn, one-turn, all-turns}
+use Rattle.lists.proofs.Putting.{Turns, no-turn, one-turn, all-turns}
 use Rattle.text.proofs.Spaced.{spaced, line-puts}
 use borrow.Author.Needs.{needs}
 use Rattle.text.proofs.put.put_line.Statement.{statement}

@@ -3,7 +3,7 @@
 use Prim.Native.Nat.{_≤_}
 use native.Mathlib.Omega.{arith}
 use Rattle.text.proofs.Decimal.{digits-decimal, at-most-twenty}
-use Rattle.text.proofs.Putting.{puts-as}
+use Rattle.lists.proofs.Putting.{puts-as}
 use borrow.Author.Needs.{needs}
 use Rattle.text.proofs.put.put_number.Statement.{statement}
 use Rattle.text.proofs.put.put_number.Tie as tie

@@ -8,7 +8,7 @@ use native.Mathlib.Nat.{add-zero, zero-add, suc-add, add-assoc}
 use native.Mathlib.Numerals.{add-one}
 use lib.ListN.{length, take, drop, set, length-drop, length-append, take-append-drop, drop-of-length-le}
 use lib.Seq.{take-all, drop-nil, take-length, drop-length, drop-drop, take-append-seam, drop-append-seam, set-split}
-use Rattle.text.specs.Text.{Puts}
+use Rattle.lists.specs.Puts.{Puts}
 
 -- text copied into the rest of a buffer, and the rest put back
 pub puts : {text out new : List ℕ} {at r : ℕ} → r ≡ length text → new ≡ take (length text) text ++ drop (length text) (take (length out - at) (drop at out)) → Puts out at text (at + r) (take at out ++ (new ++ drop (length out - at) (drop at out)))

@@ -1,0 +1,4 @@
+pub mod LittleEndian
+pub mod Sizes
+pub mod ReadingBack
+pub mod WritingBack
