@@ -1,25 +1,39 @@
 -- Text put into a buffer: the same text, one text after another, and text put by turns.
 -- Assumes nothing.
 use Prim.Native.Nat.{ℕ, zero, suc, _+_, _*_, _-_, _≤_, _<_}
-use mathlib.Core.Path.{_≡_, refl, sym, _∙_, ap, subst}
+use mathlib.Core.Path.{_≡_, refl, sym, _∙_, ap, ap₂, subst}
 use mathlib.Core.List.{List, [], _∷_, _++_, append-nil, append-assoc}
 use native.Mathlib.Omega.{arith}
 use native.Mathlib.Nat.{add-zero, zero-add, suc-add, add-assoc}
 use native.Mathlib.Numerals.{add-one}
-use lib.ListN.{length, take, drop, set, length-drop, length-append, take-append-drop, drop-of-length-le}
-use lib.Seq.{take-all, drop-nil, take-length, drop-length, drop-drop, take-append-seam, drop-append-seam, set-split}
+use lib.ListN.{length, getD, take, drop, set, length-drop, length-append, take-append-drop, drop-of-length-le}
+use lib.Seq.{paste, length-paste, take-all, drop-nil, take-length, drop-length, drop-drop, take-append-seam, drop-append-seam, set-split}
 use Rattle.lists.specs.Puts.{Puts}
+use Rattle.lists.proofs.Copying.{paste-before, paste-behind}
 
--- text copied into the rest of a buffer, and the rest put back
-pub puts : {text out new : List ℕ} {at r : ℕ} → r ≡ length text → new ≡ take (length text) text ++ drop (length text) (take (length out - at) (drop at out)) → Puts out at text (at + r) (take at out ++ (new ++ drop (length out - at) (drop at out)))
-puts {text} {out} {at = at} e n = record {
-  behind = ap (λ (k : ℕ). at + k) e;
-  written = rw (n, ← length-drop at out, take-length (drop at out), drop-length (drop at out), take-length text, append-nil, drop-drop) refl;
+-- ---- into a part of a buffer that is lent from a place on
+-- what is put into the part stands in the buffer, once the part is given back
+pub puts-part : {text out new : List ℕ} {at r : ℕ} → Puts (take (length out - at) (drop at out)) 0 text r new → Puts out at text (at + r) (take at out ++ (new ++ drop (length out - at) (drop at out)))
+puts-part {text} {out} {at = at} p = record {
+  behind = ap (λ (k : ℕ). at + k) (p .behind ∙ zero-add (length text));
+  written = rw (p .written, zero-add, ← length-drop at out, take-length (drop at out), drop-length (drop at out), append-nil, drop-drop) refl;
 }
+
+-- so does text that is copied to its front
+pub puts : {text out new : List ℕ} {at r : ℕ} → r ≡ length text → new ≡ take (length text) text ++ drop (length text) (take (length out - at) (drop at out)) → Puts out at text (at + r) (take at out ++ (new ++ drop (length out - at) (drop at out)))
+puts {text} e n = puts-part (record { behind = e ∙ sym (zero-add (length text)); written = rw (n, take-length text, zero-add) refl })
 
 -- the same text
 pub puts-as : {out : List ℕ} {at : ℕ} {t u : List ℕ} {r : ℕ} {after : List ℕ} → t ≡ u → Puts out at t r after → Puts out at u r after
 puts-as {out} {at} {r = r} {after = after} e p = subst (λ (z : List ℕ). Puts out at z r after) e p
+
+-- the same place behind it
+pub puts-to : {out : List ℕ} {at : ℕ} {t : List ℕ} {r s : ℕ} {after : List ℕ} → r ≡ s → Puts out at t r after → Puts out at t s after
+puts-to e p = record { behind = sym e ∙ p .behind; written = p .written }
+
+-- one text put allows one place behind it, and one buffer
+pub one-put : {before : List ℕ} {at : ℕ} {text : List ℕ} {r s : ℕ} {a b : List ℕ} → Puts before at text r a → Puts before at text s b → (r ≡ s) × (a ≡ b)
+one-put p q = (p .behind ∙ sym (q .behind), p .written ∙ sym (q .written))
 
 -- one byte
 pub puts-byte : {out : List ℕ} {at byte : ℕ} → at < length out → Puts out at (byte ∷ []) (at + 1) (set out at byte)
@@ -67,3 +81,23 @@ module _ {before : List ℕ} {at : ℕ} {text : ℕ → List ℕ} {room : ℕ} w
 
   pub all-turns : {k n r : ℕ} {after : List ℕ} → k ≤ n → n ≤ k → Turns before at text room k r after → Turns before at text room n r after
   all-turns {k} {n} {r} {after} a b w = let e : k ≡ n = omega arith in subst (λ (j : ℕ). Turns before at text room j r after) e w
+
+-- ---- what stands where once text is put, if there was room for it
+module _ {before : List ℕ} {at : ℕ} {text : List ℕ} {r : ℕ} {after : List ℕ} (p : Puts before at text r after) (room : at + length text ≤ length before) where
+  pasted : after ≡ paste before at text (length text)
+  pasted =
+      p .written ∙ sym (append-assoc (take at before) text (drop (at + length text) before))
+      ∙ ap (λ (t : List ℕ). take at before ++ t ++ drop (at + length text) before) (sym (take-length text))
+
+  pub put-long : length after ≡ length before
+  put-long = ap length pasted ∙ length-paste before at text (length text) room (omega arith)
+
+  pub put-before : (i : ℕ) → i < at → getD after i 0 ≡ getD before i 0
+  put-before i h = ap (λ (l : List ℕ). getD l i 0) pasted ∙ paste-before before at text (length text) room (omega arith) i h
+
+  pub put-behind : (i : ℕ) → at + length text ≤ i → getD after i 0 ≡ getD before i 0
+  put-behind i h = ap (λ (l : List ℕ). getD l i 0) pasted ∙ paste-behind before at text (length text) room (omega arith) i h
+
+  -- the buffer up to the place behind the text
+  pub put-front : take r after ≡ take at before ++ text
+  put-front = ap₂ take (p .behind) (p .written) ∙ front text at before

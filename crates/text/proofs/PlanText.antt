@@ -10,7 +10,7 @@ use Rattle.answers.specs.Numbers.{width}
 use Rattle.fraction.proofs.Scale.{cases}
 use Rattle.lists.specs.Puts.{Puts}
 use Rattle.text.specs.Text.{firstLine, rowLines, planText, textRoom, Room, TextIs}
-use Rattle.lists.proofs.Putting.{puts-then}
+use Rattle.lists.proofs.Putting.{puts-then, one-put}
 
 module _ {number place blocks : ℕ} {rows before : List ℕ} where
   -- without room
@@ -22,9 +22,6 @@ module _ {number place blocks : ℕ} {rows before : List ℕ} where
   says room p q = record { put = λ _. puts-then p q; no-room = λ h. absurd (h room) }
 
 -- ---- one result
-one-put : {before : List ℕ} {at : ℕ} {text : List ℕ} {r s : ℕ} {a b : List ℕ} → Puts before at text r a → Puts before at text s b → (r ≡ s) × (a ≡ b)
-one-put p q = (p .behind ∙ sym (q .behind), p .written ∙ sym (q .written))
-
 room-decided : (blocks : ℕ) (rows out : List ℕ) → Room blocks rows out ⊎ (Room blocks rows out → ⊥)
 room-decided blocks rows out =
     cases 1024 blocks (λ a. inr (λ room. omega (arith, a, room .few)))

@@ -72,3 +72,7 @@ unfaulted {number} {n} {Fault} quiet = none-at-fault n Fault (quiet .silent)
 
 pub untrue : {number : ℕ} {P : Type 0} → Quiet (rule number (Overall P)) → P → ⊥
 untrue {number} {P} quiet p = quiet .silent 0 (p, refl)
+
+-- and the other way
+pub not-given : {number : ℕ} {P : Type 0} → (P → ⊥) → Quiet (rule number (Overall P))
+not-given f = record { silent = λ place g. f (g .0) }

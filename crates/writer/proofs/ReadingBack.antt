@@ -2,14 +2,14 @@
 -- Assumes nothing.
 use Prim.Native.Nat.{ℕ, zero, suc, _+_, _*_, _-_, _≤_, _<_}
 use mathlib.Core.Path.{_≡_, refl, sym, _∙_, ap, ap₂, subst}
-use mathlib.Core.List.{List, _++_, append-assoc}
+use mathlib.Core.List.{List, _++_}
 use native.Mathlib.Omega.{arith}
 use lib.ListN.{length, getD, take, drop, length-append}
-use lib.Seq.{take-at, drop-at, length-take-le}
+use lib.Seq.{take-at, drop-at}
 use Rattle.lists.specs.Puts.{Puts}
 use Rattle.lists.proofs.Filling.{as-listed}
-use Rattle.trials.specs.Rules.{Overall, rule}
-use Rattle.trials.proofs.Passing.{Passed, Quiet, more, none}
+use Rattle.lists.proofs.Putting.{put-front}
+use Rattle.trials.proofs.Passing.{Passed, not-given, more, none}
 use Rattle.fraction.proofs.Scale.{cases}
 use Rattle.rules.specs.declared.Roll.{Roll}
 use Rattle.roll.specs.Format.{u16At, u32At, Marked, backOf, countOf, referenceOf, pOf, qOf, termsOf, fileRules, recordsAt, recordsOf, columnIn}
@@ -17,10 +17,6 @@ use Rattle.writer.specs.Bytes.{Listing, recordBytes, recordsUpTo, record
 use Rattle.writer.specs.Inside.{Packable}
 use Rattle.writer.proofs.LittleEndian.{two-bytes, four-bytes, byte-behind, u16-behind, u32-behind, u32-before}
 use Rattle.writer.proofs.Sizes.{length-records, records-long, roll-long}
-
--- a rule of the whole list that is not given
-quiet : {number : ℕ} {P : Type 0} → (P → ⊥) → Quiet (rule number (Overall P))
-quiet f = record { silent = λ place g. f (g .0) }
 
 -- ---- records that are written: a number of record i
 u32-record :
@@ -91,10 +87,10 @@ module _ (x : Listing) (p : Packable x) (preface : List ℕ) where
   -- no file rule is given
   passed-back : Passed (fileRules s)
   passed-back =
-      more (quiet (λ h. omega (arith, h, long)))
-      (more (quiet (λ h. h mark-back))
-      (more (quiet (λ h. h (back-back ∙ sym (ap rollLong count-back))))
-      (more (quiet (λ h. omega (arith, h, long, records-long x, back-back))) none)))
+      more (not-given (λ h. omega (arith, h, long)))
+      (more (not-given (λ h. h mark-back))
+      (more (not-given (λ h. h (back-back ∙ sym (ap rollLong count-back))))
+      (more (not-given (λ h. omega (arith, h, long, records-long x, back-back))) none)))
 
   -- the records stand behind the preface
   pub records-at : recordsAt s ≡ length preface
@@ -134,13 +130,5 @@ module _ (x : Listing) (p : Packable x) (preface : List ℕ) where
 
 -- ---- in a buffer
 -- A roll that is put into a buffer reads back from the buffer up to the roll's end: what stands before the place is the preface.
-module _ {x : Listing} {before after : List ℕ} {at to : ℕ} (w : Puts before at (rollBytes x) to after) (h : at + length (rollBytes x) ≤ length before) where
-  pub up-to-its-end : take to after ≡ take at before ++ rollBytes x
-  up-to-its-end =
-      let front = take at before ++ rollBytes x in
-      let l : length front ≡ at + length (rollBytes x) = length-append (take at before) (rollBytes x) ∙ ap (λ (k : ℕ). k + length (rollBytes x)) (length-take-le at before (omega (arith, h))) in
-      ap₂ take (w .behind) (w .written ∙ sym (append-assoc (take at before) (rollBytes x) (drop (at + length (rollBytes x)) before)))
-      ∙ take-at front (drop (at + length (rollBytes x)) before) (at + length (rollBytes x)) l
-
-  pub written-reads-back : Packable x → ReadsBack (take to after) x
-  written-reads-back p = subst (λ (s : List ℕ). ReadsBack s x) (sym up-to-its-end) (reads-back x p (take at before))
+pub written-reads-back : (x : Listing) {before after : List ℕ} {at to : ℕ} → Packable x → Puts before at (rollBytes x) to after → at + length (rollBytes x) ≤ length before → ReadsBack (take to after) x
+written-reads-back x {before} {after} {at} {to} p w h = subst (λ (s : List ℕ). ReadsBack s x) (sym (put-front w h)) (reads-back x p (take at before))

@@ -1,6 +1,6 @@
 -- What the writer of a roll gives (02, W1): its refusals and their order, and what the buffer then holds.
 -- Assumes nothing.
-use Prim.Native.Nat.{ℕ, zero, suc, _+_, _<_}
+use Prim.Native.Nat.{ℕ, zero, suc, _+_, _≤_, _<_}
 use mathlib.Core.Path.{_≡_}
 use mathlib.Core.List.{List, [], _∷_}
 use mathlib.Core.Logic.{_⊎_}
@@ -8,6 +8,7 @@ use lib.ListN.{length}
 use Rattle.lists.specs.Puts.{Puts}
 use Rattle.trials.specs.Rules.{Rule, rule, Overall, Refused, Accepted}
 use Rattle.rules.specs.Rules.{lengthsRule, manyRule}
+use Rattle.rules.specs.Leaves.{Even}
 use Rattle.rules.specs.declared.Roll.{Roll}
 use Rattle.writer.specs.Bytes.{Listing, rollLong, rollBytes}
 
@@ -36,3 +37,12 @@ rulesFor x before at = writeRules (length (x .arrivals)) (length (x .deadlines))
 unfoldable pub WriteOutcome : Listing → List ℕ → ℕ → ℕ → ℕ → ℕ → List ℕ → Type 0
 WriteOutcome x before at zero place bytes after = Accepted (rulesFor x before at) × (place ≡ 0) × Puts before at (rollBytes x) (at + bytes) after
 WriteOutcome x before at (suc number) place bytes after = Refused (rulesFor x before at) (suc number) place × (bytes ≡ 0) × (after ≡ before)
+
+-- ---- words in which the theorems are stated
+-- A list that can be written into a buffer from a place on: three lists of one length, at most 1,024 reports, P and Q of at most 65,535, and room behind the place.
+pub record Writable (x : Listing) (before : List ℕ) (at : ℕ) : Type 0 where
+  pub even : Even (x .arrivals) (x .deadlines) (x .operations)
+  pub few : length (x .arrivals) ≤ 1024
+  pub p-most : x .terms .p ≤ 65535
+  pub q-most : x .terms .q ≤ 65535
+  pub room : at + rollLong (length (x .arrivals)) ≤ length before
