@@ -21,7 +21,7 @@ puts-part {text} {out} {at = at} p = record {
 
 -- so does text that is copied to its front
 pub puts : {text out new : List ℕ} {at r : ℕ} → r ≡ length text → new ≡ take (length text) text ++ drop (length text) (take (length out - at) (drop at out)) → Puts out at text (at + r) (take at out ++ (new ++ drop (length out - at) (drop at out)))
-puts {text} e n = puts-part (record { behind = e ∙ sym (zero-add (length text)); written = rw (n, take-length text, zero-add) refl })
+puts {text} {new = new} e n = puts-part {new = new} (record { behind = e ∙ sym (zero-add (length text)); written = rw (n, take-length text, zero-add) refl })
 
 -- the same text
 pub puts-as : {out : List ℕ} {at : ℕ} {t u : List ℕ} {r : ℕ} {after : List ℕ} → t ≡ u → Puts out at t r after → Puts out at u r after

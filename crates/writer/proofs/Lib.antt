@@ -1,5 +1,5 @@
 pub mod LittleEndian
-pub mod Sizes
+pub mod Records
 pub mod ReadingBack
 pub mod WritingBack
 pub mod Outcomes

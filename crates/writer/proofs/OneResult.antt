@@ -52,6 +52,6 @@ module _ (x : Listing) (before : List ℕ) (at : ℕ) where
   pub some-write : (number : ℕ) × (place : ℕ) × (bytes : ℕ) × (after : List ℕ) × WriteOutcome x before at number place bytes after
   some-write =
       ⊎-elim
-      (λ (p : Passed (rulesFor x before at)). let w = all-put x before at in (0, 0, w .0, w .1, written x before at p (w .2)))
+      (λ (p : Passed (rulesFor x before at)). let w = all-put x before at in (0, 0, w .0, w .1, written x before at (w .0) p (w .2)))
       (λ (g : Gives (rulesFor x before at)). (g .number, g .place, 0, before, refused-write x before at (record { refused = g .refused; numbered = g .numbered })))
       (passed-or-given decides-write)

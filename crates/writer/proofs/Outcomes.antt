@@ -22,7 +22,7 @@ use Rattle.rules.proofs.Leaving.{few-reports}
 use Rattle.writer.specs.Bytes.{Listing, rollLong, rollBytes, ReadsBack}
 use Rattle.writer.specs.Writing.{wideRule, roomRule, rulesFor, WriteOutcome, Writable}
 use Rattle.writer.specs.Inside.{RecordsFit, Packable}
-use Rattle.writer.proofs.Sizes.{roll-long}
+use Rattle.writer.proofs.Records.{roll-long}
 use Rattle.writer.proofs.ReadingBack.{written-reads-back}
 
 -- ---- the test of rule 15, where the place is inside the buffer and a trailer has room behind it
@@ -58,15 +58,15 @@ module _ (x : Listing) (before : List ℕ) (at : ℕ) where
   refused-write {a} r = refused (a .number) (a .place) (r .numbered) (r .refused)
 
   -- ---- none is
-  pub written : {bytes : ℕ} {after : List ℕ} → Passed (rulesFor x before at) → Puts before at (rollBytes x) (at + bytes) after → WriteOutcome x before at 0 0 bytes after
+  pub written : (bytes : ℕ) {after : List ℕ} → Passed (rulesFor x before at) → Puts before at (rollBytes x) (at + bytes) after → WriteOutcome x before at 0 0 bytes after
   unfolding WriteOutcome
-  written p w = (p .accepted, refl, w)
+  written bytes p w = (p .accepted, refl, w)
 
   -- and where the numbers fit, what is written reads back
   pub shown-again :
-      {bytes : ℕ} {after : List ℕ} → Passed (rulesFor x before at) → Puts before at (rollBytes x) (at + bytes) after →
+      (bytes : ℕ) {after : List ℕ} → Passed (rulesFor x before at) → Puts before at (rollBytes x) (at + bytes) after →
       RecordsFit (x .arrivals) (x .deadlines) (x .operations) (length (x .arrivals)) → x .terms .reference < 2 ^ 32 → ReadsBack (take (at + bytes) after) x
-  shown-again p w f r =
+  shown-again bytes p w f r =
       let l = leaves p in
       written-reads-back x (record {
         even = l .even;
@@ -110,8 +110,8 @@ module _ (x : Listing) (before : List ℕ) (at : ℕ) where
   nothing-written (suc k) place bytes after o h = (o .1, o .2)
 
   -- where it is put, it fits
-  pub inside : {bytes : ℕ} {after : List ℕ} → Passed (rulesFor x before at) → Puts before at (rollBytes x) (at + bytes) after → (bytes ≡ length (rollBytes x)) × (at + length (rollBytes x) ≤ length before)
-  inside {bytes} p w =
+  pub inside : (bytes : ℕ) {after : List ℕ} → Passed (rulesFor x before at) → Puts before at (rollBytes x) (at + bytes) after → (bytes ≡ length (rollBytes x)) × (at + length (rollBytes x) ≤ length before)
+  inside bytes p w =
       let e : at + bytes ≡ at + length (rollBytes x) = w .behind in
       (omega (arith, e), omega (arith, leaves p .room, roll-long x))
 
@@ -120,8 +120,8 @@ module _ (x : Listing) (before : List ℕ) (at : ℕ) where
       (length after ≡ length before) × ((i : ℕ) → i < at → getD after i 0 ≡ getD before i 0) × ((i : ℕ) → at + bytes ≤ i → getD after i 0 ≡ getD before i 0)
   unfolding WriteOutcome
   stays zero place bytes after o =
-      let f = inside (record { accepted = o .0 }) (o .2) in
+      let f = inside bytes (record { accepted = o .0 }) (o .2) in
       (put-long (o .2) (f .1), put-before (o .2) (f .1), λ i h. put-behind (o .2) (f .1) i (omega (arith, h, f .0)))
   stays (suc k) place bytes after o =
-      let same = λ (i : ℕ). ap (λ (l : List ℕ). getD l i 0) (o .2) in
+      let same : (i : ℕ) → getD after i 0 ≡ getD before i 0 = λ i. ap (λ (l : List ℕ). getD l i 0) (o .2) in
       (ap length (o .2), λ i _. same i, λ i _. same i)

@@ -18,7 +18,7 @@ use Rattle.roll.proofs.FileRules.{FileIs, file-is}
 use Rattle.roll.proofs.OneResult.{one-numbers}
 use Rattle.writer.specs.Bytes.{Listing, rollBytes, shown, ReadsBack, ByteString}
 use Rattle.writer.specs.Writing.{rulesFor, WriteOutcome, Writable}
-use Rattle.writer.proofs.Sizes.{roll-long}
+use Rattle.writer.proofs.Records.{roll-long}
 use Rattle.writer.proofs.Outcomes.{exactly-when, inside}
 use Rattle.writer.proofs.WritingBack.{shown-packable, writes-back}
 
@@ -33,7 +33,7 @@ module _ (x : Listing) (before : List ℕ) (at place bytes : ℕ) (after : List 
   roll-ends : (length roll ≡ at + bytes) × (bytes ≡ 16 + 12 * n)
   unfolding WriteOutcome
   roll-ends =
-      let f = inside x before at (record { accepted = o .0 }) (o .2) in
+      let f = inside x before at bytes (record { accepted = o .0 }) (o .2) in
       (length-take-le (at + bytes) after (omega (arith, f .0, f .1, put-long (o .2) (f .1))), f .0 ∙ roll-long x)
 
   begins : recordsAt roll ≡ at
@@ -89,11 +89,12 @@ module _ (s : List ℕ) (bytes : ByteString s) (p : Passed (fileRules s)) (alone
   unfolding WriteOutcome
   again place n after o =
       let e = writes-back s bytes p alone in
-      (o .1, inside x before at (record { accepted = o .0 }) (o .2) .0 ∙ ap length e, o .2 .written ∙ ap (λ (t : List ℕ). take at before ++ (t ++ drop (at + length t) before)) e)
+      (o .1, inside x before at n (record { accepted = o .0 }) (o .2) .0 ∙ ap length e, o .2 .written ∙ ap (λ (t : List ℕ). take at before ++ (t ++ drop (at + length t) before)) e)
 
   pub written-again :
       (number place n : ℕ) (after : List ℕ) → WriteOutcome (shown s) before at number place n after →
       (number ≡ 0) × (place ≡ 0) × (n ≡ length s) × (after ≡ take at before ++ (s ++ drop (at + length s) before))
   written-again number place n after o =
       let e : number ≡ 0 = exactly-when x before at number place n after o .1 writable in
-      (e, again place n after (subst (λ (k : ℕ). WriteOutcome x before at k place n after) e o))
+      let w = again place n after (subst (λ (k : ℕ). WriteOutcome x before at k place n after) e o) in
+      (e, w .0, w .1, w .2)

@@ -24,7 +24,7 @@ marked-is : (s : List ℕ) → Passed (fileRules s) → Marked s
 unfolding dec-marked
 marked-is s p =
     let q : Quiet (markRule s) = search finding depth 40 in
-    ⊎-elim (λ (m : Marked s). m) (λ n. absurd (untrue q n)) (dec-marked {s} .decided)
+    ⊎-elim (λ (m : Marked s). m) (λ n. absurd (untrue q n)) (dec-marked {s = s} .decided)
 
 -- ---- parts of a string
 module _ (s : List ℕ) where

@@ -155,7 +155,7 @@ pub fn write(
     at: usize,
 ) -> WriteReply
     ensures { λ r. ⌜ WriteOutcome (record { arrivals = now (arrivals .entry); deadlines = now (deadlines .entry); operations = now (operations .entry); terms = terms }) (now (out .entry)) at (r .number) (r .place) (r .bytes) (now (out .exit)) ⌝ }
-    ensures { λ r. ⌜ r .number ≡ 0 → ReadsBack (take (at + r .bytes) (now (out .exit))) (record { arrivals = now (arrivals .entry); deadlines = now (deadlines .entry); operations = now (operations .entry); terms = terms }) ⌝ }
+    ensures { λ r. ⌜ (r .number ≡ 0 → ReadsBack (take (at + r .bytes) (now (out .exit))) (record { arrivals = now (arrivals .entry); deadlines = now (deadlines .entry); operations = now (operations .entry); terms = terms })) ⌝ }
 {
     let tried = write_rules(
         Verdict::Silent,

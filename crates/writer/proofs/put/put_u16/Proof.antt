@@ -1,0 +1,17 @@
+-- `writer::put::put_u16` meets its contract: one byte, and one behind it.
+-- Assumes nothing.
+use native.Mathlib.Omega.{arith}
+use borrow.Author.Needs.{needs}
+use Rattle.lists.proofs.Putting.{puts-to, puts-then}
+use Rattle.writer.proofs.put.put_u16.Statement.{statement}
+use Rattle.writer.proofs.put.put_u16.Tie as tie
+
+pub put-u16-spec : {M : Type 1} → statement M
+put-u16-spec =
+    tie.close
+    (tie.spec
+    (λ c κs. search needs)
+    (λ c. search needs)
+    (λ c κs. search needs)
+    (λ c. search needs)
+    (λ c. puts-to (omega arith) (puts-then (c .before .before .before .before .before .before .put-u8 .ensures) (c .before .before .put-u82 .ensures))))
