@@ -67,6 +67,12 @@ pub extern "C" fn vakrhildo_write(
     ensures { λ r. ⌜ WriteOutcome (record { arrivals = now (arrivals .entry); deadlines = now (deadlines .entry); operations = now (operations .entry); terms = record { reference = reference; p = p; q = q } }) (now (out .entry)) at (r .number) (r .place) (r .bytes) (now (out .exit)) ⌝ }
     ensures { λ r. ⌜ (r .number ≡ 0 → ReadsBack (take (at + r .bytes) (now (out .exit))) (record { arrivals = now (arrivals .entry); deadlines = now (deadlines .entry); operations = now (operations .entry); terms = record { reference = reference; p = p; q = q } })) ⌝ }
 {
-    let terms = Roll { reference, p, q };
-    writer::write(arrivals, deadlines, operations, terms, out, at)
+    writer::write(
+        arrivals,
+        deadlines,
+        operations,
+        Roll { reference, p, q },
+        out,
+        at,
+    )
 }

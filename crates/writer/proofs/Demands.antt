@@ -2,11 +2,10 @@
 -- (specs/Writing.antt) says what comes back and what the buffer then holds, and `ReadsBack` (specs/Bytes.antt) that what is written reads back. x is the list with its reference, P and Q; before is the buffer as it is lent, and at
 -- the place in it; number, place, bytes and after are what `write` returns and what the buffer then holds.
 -- Nothing is assumed.
-use Prim.Native.Nat.{ℕ, zero, suc, _+_, _*_, _≤_, _<_}
-use mathlib.Core.Path.{_≡_, refl, sym, _∙_, ap, ap₂, subst}
+use Prim.Native.Nat.{ℕ, _+_, _*_, _≤_, _<_}
+use mathlib.Core.Path.{_≡_, sym, ap, subst}
 use mathlib.Core.List.{List, _++_}
 use mathlib.Core.Logic.{_↔_}
-use native.Mathlib.Omega.{arith}
 use lib.ListN.{length, getD, take, drop}
 use denote.Ref.{RefT}
 use Rattle.trials.specs.Rules.{Accepted}
@@ -14,7 +13,7 @@ use Rattle.rules.specs.Offsets.{Input, reportsOf, fastestOf}
 use Rattle.rules.specs.Rules.{planRules}
 use Rattle.planner.specs.Outcome.{PlanOutcome}
 use Rattle.planner.proofs.Outcomes.{goes-on}
-use Rattle.roll.specs.Format.{countOf, referenceOf, pOf, qOf, backOf, fileRules, recordsAt, recordsOf, columnIn, inputOf, RollOutcome}
+use Rattle.roll.specs.Format.{countOf, referenceOf, pOf, qOf, backOf, fileRules, recordsOf, columnIn, inputOf, RollOutcome}
 use Rattle.roll.specs.Answers.{NumbersIs, PartFrom, PartIs}
 use Rattle.roll.specs.declared.Numbers.{Numbers}
 use Rattle.roll.proofs.Demands as Roll
@@ -54,6 +53,10 @@ module _ (x : Listing) (before : List ℕ) (at : ℕ) where
     pub the-bytes-around-it-stay :
         (length after ≡ length before) × ((i : ℕ) → i < at → getD after i 0 ≡ getD before i 0) × ((i : ℕ) → at + bytes ≤ i → getD after i 0 ≡ getD before i 0)
     the-bytes-around-it-stay = Of.stays x before at number place bytes after o
+
+  -- A buffer with 12,304 bytes behind the place, 16 and 12 times 1,024, has room for every list that can be written: 15 is never given.
+  pub room-for-every-list : at + rollLong 1024 ≤ length before → (place bytes : ℕ) (after : List ℕ) → WriteOutcome x before at 15 place bytes after → ⊥
+  room-for-every-list h place bytes after = Of.never-fifteen x before at place bytes after h
 
   -- ---- What is written reads back
   module _ (place bytes : ℕ) (after : List ℕ) (o : WriteOutcome x before at 0 place bytes after) (b : ReadsBack (take (at + bytes) after) x) where

@@ -6,3 +6,4 @@ pub mod Outcomes
 pub mod OneResult
 pub mod Showing
 pub mod Demands
+pub mod Sample

@@ -9,7 +9,7 @@ use Rattle.lists.proofs.Putting.{one-put}
 use Rattle.trials.proofs.Passing.{Passed}
 use Rattle.trials.proofs.Single.{Soles, singly, not-refused, one-refusal}
 use Rattle.trials.proofs.Deciding.{Decides, Gives, deciding, passed-or-given}
-use Rattle.writer.specs.Bytes.{Listing, rollBytes}
+use Rattle.writer.specs.Bytes.{Listing}
 use Rattle.writer.specs.Writing.{rulesFor, WriteOutcome}
 use Rattle.writer.specs.declared.WriteReply.{WriteReply}
 use Rattle.writer.proofs.Outcomes.{refused-write, written, all-put}

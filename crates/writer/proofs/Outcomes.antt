@@ -1,7 +1,7 @@
 -- The writer's outcome: of a refusal, and of a roll that is put; and what its rules leave where none is given.
 -- Assumes nothing.
 use Prim.Native.Nat.{ℕ, zero, suc, _+_, _-_, _/_, _^_, _≤_, _<_}
-use mathlib.Core.Path.{_≡_, refl, sym, ap}
+use mathlib.Core.Path.{_≡_, refl, sym, ap, subst}
 use mathlib.Core.List.{List, _++_}
 use mathlib.Core.Logic.{_↔_, inl, inr, ⊎-elim}
 use native.Mathlib.Omega.{arith}
@@ -14,6 +14,7 @@ use Rattle.lists.proofs.Putting.{put-long, put-before, put-behind}
 use Rattle.trials.specs.Rules.{Refused, Refuses}
 use Rattle.trials.specs.Tries.{Tells}
 use Rattle.trials.proofs.Passing.{Passed, Quiet, finding, untrue, not-given, more, none}
+use Rattle.trials.proofs.Numbers.{Never, never-none, never-other, never-this}
 use Rattle.trials.proofs.Single.{not-refused}
 use Rattle.trials.proofs.Trying.{tells-as, tells-below}
 use Rattle.fraction.proofs.Scale.{cases}
@@ -21,13 +22,15 @@ use Rattle.rules.specs.Rules.{lengthsRule, manyRule}
 use Rattle.rules.proofs.Leaving.{few-reports}
 use Rattle.writer.specs.Bytes.{Listing, rollLong, rollBytes, ReadsBack}
 use Rattle.writer.specs.Writing.{wideRule, roomRule, rulesFor, WriteOutcome, Writable}
-use Rattle.writer.specs.Inside.{RecordsFit, Packable}
+use Rattle.writer.specs.Inside.{RecordsFit}
 use Rattle.writer.proofs.Records.{roll-long}
 use Rattle.writer.proofs.ReadingBack.{written-reads-back}
 
 -- ---- the test of rule 15, where the place is inside the buffer and a trailer has room behind it
-pub tells-room : (reports at room : ℕ) → at ≤ room → 16 ≤ room - at → Tells (room < at + rollLong reports) (ltb ((room - at - 16) / 12) reports)
-tells-room reports at room h k = tells-as (λ (l : (room - at - 16) / 12 < reports). omega arith) (λ (l : room < at + rollLong reports). omega arith) tells-below
+pub tells-room : (reports at room trailer each : ℕ) → trailer ≡ 16 → each ≡ 12 → at ≤ room → trailer ≤ room - at → Tells (room < at + rollLong reports) (ltb ((room - at - trailer) / each) reports)
+tells-room reports at room trailer each e f h k =
+    subst (λ (d : ℕ). Tells (room < at + rollLong reports) (ltb ((room - at - trailer) / d) reports)) (sym f)
+    (tells-as (λ (l : (room - at - trailer) / 12 < reports). omega (arith, l, e, h, k)) (λ (l : room < at + rollLong reports). omega (arith, l, e, h, k)) tells-below)
 
 -- ---- what the rules leave
 module _ (x : Listing) (before : List ℕ) (at : ℕ) where
@@ -125,3 +128,13 @@ module _ (x : Listing) (before : List ℕ) (at : ℕ) where
   stays (suc k) place bytes after o =
       let same : (i : ℕ) → getD after i 0 ≡ getD before i 0 = λ i. ap (λ (l : List ℕ). getD l i 0) (o .2) in
       (ap length (o .2), λ i _. same i, λ i _. same i)
+
+  -- where every roll has room behind the place, 15 is never given
+  room-silent : at + rollLong 1024 ≤ length before → Never 15 (rulesFor x before at)
+  room-silent h =
+      let room : Quiet (manyRule (length (x .arrivals))) → Quiet (roomRule (length (x .arrivals)) at (length before)) = λ many. not-given (λ l. omega (arith, l, h, few-reports many)) in
+      search (never-other, never-this, never-none) depth 40
+
+  pub never-fifteen : (place bytes : ℕ) (after : List ℕ) → at + rollLong 1024 ≤ length before → WriteOutcome x before at 15 place bytes after → ⊥
+  unfolding WriteOutcome
+  never-fifteen place bytes after h o = room-silent h .never place (o .0)

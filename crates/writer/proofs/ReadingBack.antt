@@ -14,9 +14,8 @@ use Rattle.fraction.proofs.Scale.{cases}
 use Rattle.rules.specs.declared.Roll.{Roll}
 use Rattle.roll.specs.Format.{u16At, u32At, Marked, backOf, countOf, referenceOf, pOf, qOf, termsOf, fileRules, recordsAt, recordsOf, columnIn}
 use Rattle.writer.specs.Bytes.{Listing, recordBytes, recordsUpTo, recordsBytes, trailerBytes, trailerFor, rollLong, rollBytes, shown, ReadsBack}
-use Rattle.writer.specs.Inside.{Packable}
 use Rattle.writer.proofs.LittleEndian.{two-bytes, four-bytes, byte-behind, u16-behind, u32-behind, u32-before}
-use Rattle.writer.proofs.Records.{length-records, records-long, roll-long}
+use Rattle.writer.proofs.Records.{Packable, length-records, records-long, roll-long}
 
 -- ---- records that are written: a number of record i
 u32-record :

@@ -1,12 +1,13 @@
 -- Records one behind the other: how long they are, and a roll with them; and that the numbers in them fit their bytes.
 -- Assumes nothing.
-use Prim.Native.Nat.{ℕ, zero, suc, _+_, _*_, _≤_, _<_}
+use Prim.Native.Nat.{ℕ, zero, suc, _+_, _*_, _^_, _≤_, _<_}
 use mathlib.Core.Path.{_≡_, refl, subst}
 use mathlib.Core.List.{List, _++_}
 use native.Mathlib.Omega.{arith}
 use Rattle.fraction.proofs.Scale.{cases}
 use lib.ListN.{length, getD, length-append}
 use Rattle.lists.specs.Puts.{Puts}
+use Rattle.rules.specs.Leaves.{Even}
 use Rattle.lists.proofs.Putting.{Turns}
 use Rattle.writer.specs.Bytes.{Listing, recordBytes, recordsUpTo, recordsBytes, trailerBytes, trailerFor, rollLong, rollBytes}
 use Rattle.writer.specs.Inside.{RecordFits, RecordsFit}
@@ -46,3 +47,13 @@ pub all-records :
 all-records {xs} {ys} {ws} {before} {after} {i} h inv =
     let e : i ≡ length xs = omega (arith, h, inv .0) in
     subst (λ (n : ℕ). Puts before 0 (recordsUpTo xs ys ws n) (12 * n) after × RecordsFit xs ys ws n) e (inv .1 .put, inv .2)
+
+-- ---- what a roll can carry
+-- A list that a roll can carry: three lists of one length, and each number fits its bytes.
+pub record Packable (x : Listing) : Type 0 where
+  pub even : Even (x .arrivals) (x .deadlines) (x .operations)
+  pub records-fit : RecordsFit (x .arrivals) (x .deadlines) (x .operations) (length (x .arrivals))
+  pub reference-fits : x .terms .reference < 2 ^ 32
+  pub count-fits : length (x .arrivals) < 2 ^ 16
+  pub p-fits : x .terms .p < 2 ^ 16
+  pub q-fits : x .terms .q < 2 ^ 16

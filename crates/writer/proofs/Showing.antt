@@ -11,13 +11,13 @@ use Rattle.lists.proofs.Putting.{put-long}
 use Rattle.trials.specs.Rules.{Accepted}
 use Rattle.trials.proofs.Passing.{Passed}
 use Rattle.trials.proofs.Single.{not-refused}
-use Rattle.roll.specs.Format.{countOf, termsOf, backOf, fileRules, recordsAt, recordsLong}
+use Rattle.roll.specs.Format.{countOf, backOf, fileRules, recordsAt, recordsLong}
 use Rattle.roll.specs.Answers.{NumbersIs, PartFrom, PartIs}
 use Rattle.roll.specs.declared.Numbers.{Numbers}
 use Rattle.roll.proofs.FileRules.{FileIs, file-is}
 use Rattle.roll.proofs.OneResult.{one-numbers}
 use Rattle.writer.specs.Bytes.{Listing, rollBytes, shown, ReadsBack, ByteString}
-use Rattle.writer.specs.Writing.{rulesFor, WriteOutcome, Writable}
+use Rattle.writer.specs.Writing.{WriteOutcome, Writable}
 use Rattle.writer.proofs.Records.{roll-long}
 use Rattle.writer.proofs.Outcomes.{exactly-when, inside}
 use Rattle.writer.proofs.WritingBack.{shown-packable, writes-back}

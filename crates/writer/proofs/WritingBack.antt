@@ -15,8 +15,9 @@ use Rattle.roll.specs.declared.Trailer.{Trailer}
 use Rattle.roll.proofs.FileRules.{FileIs, file-is}
 use Rattle.roll.proofs.Rolls.{column-long}
 use Rattle.roll.proofs.OneResult.{dec-marked}
-use Rattle.writer.specs.Bytes.{Listing, le16, le32, recordBytes, recordsUpTo, trailerBytes, rollBytes, shown, ByteString}
-use Rattle.writer.specs.Inside.{RecordFits, RecordsFit, Packable}
+use Rattle.writer.specs.Bytes.{le16, le32, recordBytes, recordsUpTo, trailerBytes, rollBytes, shown, ByteString}
+use Rattle.writer.specs.Inside.{RecordsFit}
+use Rattle.writer.proofs.Records.{Packable}
 use Rattle.writer.proofs.LittleEndian.{bytes-two}
 
 -- what an accepted file's mark is

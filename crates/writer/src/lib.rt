@@ -28,6 +28,11 @@ pub struct WriteReply {
     pub bytes: usize,
 }
 
+impl WriteReply {
+    // The most bytes that are written: behind the place so many are room for every list.
+    pub const MOST: usize = Trailer::BYTES + Trailer::RECORD * Roll::REPORTS;
+}
+
 // Whether P or Q has more than its two bytes.
 fn too_wide(terms: Roll) -> bool
     ensures { λ r. ⌜ Tells ((65535 < terms .p) ⊎ (65535 < terms .q)) r ⌝ }

@@ -1,5 +1,6 @@
 -- `writer::no_room` meets its contract.
 -- Assumes nothing.
+use mathlib.Core.Path.{refl}
 use native.Mathlib.Omega.{arith}
 use Rattle.trials.proofs.Trying.{tells-yes}
 use Rattle.writer.proofs.Outcomes.{tells-room}
@@ -12,4 +13,4 @@ no-room-spec =
     (tie.spec
     (λ c. tells-yes (omega arith))
     (λ c. tells-yes (omega arith))
-    (λ c. tells-room _ _ _ (c .before .if1 .left) (c .if2 .left)))
+    (λ c. tells-room _ _ _ _ _ refl refl (c .before .if1 .left) (c .if2 .left)))
