@@ -16,7 +16,7 @@ use Rattle.trials.proofs.Passing.{Passed, Quiet, finding, unfaulted, untrue}
 use Rattle.fraction.proofs.Scale.{cases}
 use Rattle.critical.specs.Reports.{Reports, listOf, Working}
 use Rattle.rules.specs.Rules.{lengthsRule, manyRule, shortRule, paceRule, countRules, operationsRule, arrivalRule, deadlineRule, formRules}
-use Rattle.rules.specs.Leaves.{Sized, Paced, Fair}
+use Rattle.rules.specs.Leaves.{Even, Sized, Paced, Fair}
 use Rattle.rules.specs.declared.Roll.{Roll}
 
 pub within-range : (low high x : ℕ) → (Outside low high x → ⊥) → (low ≤ x) × (x ≤ high)
@@ -27,6 +27,12 @@ pub tells-short : (n room : ℕ) → Tells (room < width * n) (ltb (room / width
 tells-short n room = tells-as (λ (h : room / width < n). omega arith) (λ (h : room < width * n). omega arith) tells-below
 
 -- ---- each rule by itself
+pub even-lists : (xs ys ws : List ℕ) → Quiet (lengthsRule (length xs) (length ys) (length ws)) → Even xs ys ws
+even-lists xs ys ws q = record {
+  deadlines-long = elim (ℕ-discrete (length ys) (length xs)) [ yes e ↦ e | no h ↦ absurd (untrue q (inl (λ e. h (sym e)))) ];
+  operations-long = elim (ℕ-discrete (length ws) (length xs)) [ yes e ↦ e | no h ↦ absurd (untrue q (inr (λ e. h (sym e)))) ];
+}
+
 pub few-reports : {n : ℕ} → Quiet (manyRule n) → n ≤ 1024
 few-reports {n} q = cases 1024 n (λ l. absurd (untrue q l)) (λ g. g)
 
@@ -50,10 +56,7 @@ module _ (xs ys ws before : List ℕ) (terms : Roll) (p : Passed (countRules (le
       let many : Quiet (manyRule (length xs)) = search finding depth 40 in
       let short : Quiet (shortRule (length xs) (length before)) = search finding depth 40 in
       record {
-        even = record {
-          deadlines-long = elim (ℕ-discrete (length ys) (length xs)) [ yes e ↦ e | no h ↦ absurd (untrue lengths (inl (λ e. h (sym e)))) ];
-          operations-long = elim (ℕ-discrete (length ws) (length xs)) [ yes e ↦ e | no h ↦ absurd (untrue lengths (inr (λ e. h (sym e)))) ];
-        };
+        even = even-lists xs ys ws lengths;
         few = few-reports many;
         room = enough-room (length xs) (length before) short;
       }

@@ -5,7 +5,6 @@ use mathlib.Core.Path.{_≡_, refl, sym, ap, subst}
 use mathlib.Core.List.{List, _++_}
 use mathlib.Core.Logic.{_↔_, inl, inr, ⊎-elim}
 use native.Mathlib.Omega.{arith}
-use native.Mathlib.Decide.{ℕ-discrete}
 use lib.Dec.{ltb}
 use lib.ListN.{length, getD, take, drop}
 use Rattle.answers.specs.declared.Refusal.{Refusal}
@@ -19,7 +18,8 @@ use Rattle.trials.proofs.Single.{not-refused}
 use Rattle.trials.proofs.Trying.{tells-as, tells-below}
 use Rattle.fraction.proofs.Scale.{cases}
 use Rattle.rules.specs.Rules.{lengthsRule, manyRule}
-use Rattle.rules.proofs.Leaving.{few-reports}
+use Rattle.rules.specs.Leaves.{Even}
+use Rattle.rules.proofs.Leaving.{even-lists, few-reports}
 use Rattle.writer.specs.Bytes.{Listing, rollLong, rollBytes, ReadsBack}
 use Rattle.writer.specs.Writing.{wideRule, roomRule, rulesFor, WriteOutcome, Writable}
 use Rattle.writer.specs.Inside.{RecordsFit}
@@ -37,14 +37,13 @@ module _ (x : Listing) (before : List ℕ) (at : ℕ) where
   pub leaves : Passed (rulesFor x before at) → Writable x before at
   leaves p =
       let lengths : Quiet (lengthsRule (length (x .arrivals)) (length (x .deadlines)) (length (x .operations))) = search finding depth 40 in
+      let even : Even (x .arrivals) (x .deadlines) (x .operations) = even-lists (x .arrivals) (x .deadlines) (x .operations) lengths in
       let many : Quiet (manyRule (length (x .arrivals))) = search finding depth 40 in
       let wide : Quiet (wideRule (x .terms)) = search finding depth 40 in
       let room : Quiet (roomRule (length (x .arrivals)) at (length before)) = search finding depth 40 in
       record {
-        even = record {
-          deadlines-long = elim (ℕ-discrete (length (x .deadlines)) (length (x .arrivals))) [ yes e ↦ e | no h ↦ absurd (untrue lengths (inl (λ e. h (sym e)))) ];
-          operations-long = elim (ℕ-discrete (length (x .operations)) (length (x .arrivals))) [ yes e ↦ e | no h ↦ absurd (untrue lengths (inr (λ e. h (sym e)))) ];
-        };
+        as-many-deadlines = even .deadlines-long;
+        as-many-operations = even .operations-long;
         few = few-reports many;
         p-most = cases 65535 (x .terms .p) (λ l. absurd (untrue wide (inl l))) (λ g. g);
         q-most = cases 65535 (x .terms .q) (λ l. absurd (untrue wide (inr l))) (λ g. g);
@@ -72,7 +71,7 @@ module _ (x : Listing) (before : List ℕ) (at : ℕ) where
   shown-again bytes p w f r =
       let l = leaves p in
       written-reads-back x (record {
-        even = l .even;
+        even = record { deadlines-long = l .as-many-deadlines; operations-long = l .as-many-operations };
         records-fit = f;
         reference-fits = r;
         count-fits = omega (arith, l .few);
@@ -87,7 +86,7 @@ module _ (x : Listing) (before : List ℕ) (at : ℕ) where
   -- ---- the other way: what can be written is, and nothing else
   passes : Writable x before at → Passed (rulesFor x before at)
   passes w =
-      more (not-given (⊎-elim (λ h. h (sym (w .even .deadlines-long))) (λ h. h (sym (w .even .operations-long)))))
+      more (not-given (⊎-elim (λ h. h (sym (w .as-many-deadlines))) (λ h. h (sym (w .as-many-operations)))))
       (more (not-given (λ h. omega (arith, h, w .few)))
       (more (not-given (⊎-elim (λ h. omega (arith, h, w .p-most)) (λ h. omega (arith, h, w .q-most))))
       (more (not-given (λ h. omega (arith, h, w .room))) none)))

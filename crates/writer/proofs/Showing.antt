@@ -77,7 +77,8 @@ module _ (s : List ℕ) (bytes : ByteString s) (p : Passed (fileRules s)) (alone
       let e : length (rollBytes x) ≡ length s = ap length (writes-back s bytes p alone) in
       let f : FileIs s = file-is s p in
       record {
-        even = k .even;
+        as-many-deadlines = k .even .deadlines-long;
+        as-many-operations = k .even .operations-long;
         few = omega (arith, e, roll-long x, alone, f .back-is, few);
         p-most = omega (arith, k .p-fits);
         q-most = omega (arith, k .q-fits);

@@ -8,7 +8,6 @@ use lib.ListN.{length}
 use Rattle.lists.specs.Puts.{Puts}
 use Rattle.trials.specs.Rules.{Rule, rule, Overall, Refused, Accepted}
 use Rattle.rules.specs.Rules.{lengthsRule, manyRule}
-use Rattle.rules.specs.Leaves.{Even}
 use Rattle.rules.specs.declared.Roll.{Roll}
 use Rattle.writer.specs.Bytes.{Listing, rollLong, rollBytes}
 
@@ -41,7 +40,8 @@ WriteOutcome x before at (suc number) place bytes after = Refused (rulesFor x be
 -- ---- words in which the theorems are stated
 -- A list that can be written into a buffer from a place on: three lists of one length, at most 1,024 reports, P and Q of at most 65,535, and room behind the place.
 pub record Writable (x : Listing) (before : List ℕ) (at : ℕ) : Type 0 where
-  pub even : Even (x .arrivals) (x .deadlines) (x .operations)
+  pub as-many-deadlines : length (x .deadlines) ≡ length (x .arrivals)
+  pub as-many-operations : length (x .operations) ≡ length (x .arrivals)
   pub few : length (x .arrivals) ≤ 1024
   pub p-most : x .terms .p ≤ 65535
   pub q-most : x .terms .q ≤ 65535

@@ -36,7 +36,7 @@ returns c =
 write-roll-requires : tie.Need-write-roll-requires
 write-roll-requires c κs =
     let l = can (c .before) in
-    (l .even, (l .few, omega (arith, l .room)))
+    (record { deadlines-long = l .as-many-deadlines; operations-long = l .as-many-operations }, (l .few, omega (arith, l .room)))
 
 returns-2 : tie.Need-returns-2
 returns-2 c =
