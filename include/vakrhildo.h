@@ -1,6 +1,7 @@
-/* Vakrhildo for C: the proved planner and the roll's reader. Link with target/staticlib/libvakrhildo.a,
-   which `rt staticlib vakrhildo` writes (x86-64 Linux). All three functions answer every input; they
-   use no heap, no global state, nothing of another library but memset, and at most 21 KiB of stack. */
+/* Vakrhildo for C: the proved planner, the roll's reader and its writer. Link with
+   target/staticlib/libvakrhildo.a, which `rt staticlib vakrhildo` writes (x86-64 Linux). All four
+   functions answer every input; they use no heap, no global state, nothing of another library but
+   memset, and at most 21 KiB of stack. */
 #ifndef VAKRHILDO_H
 #define VAKRHILDO_H
 
@@ -12,9 +13,12 @@ extern "C" {
 #endif
 
 /* The most reports, and the numbers of a row: a buffer of VAKRHILDO_ROW * VAKRHILDO_REPORTS numbers
-   is long enough for every list. */
+   is long enough for the rows of every list. */
 #define VAKRHILDO_REPORTS 1024
 #define VAKRHILDO_ROW 5
+/* The bytes of the longest roll that is written, 16 + 12 * VAKRHILDO_REPORTS: a buffer with so many
+   behind the place is long enough for the roll of every list. */
+#define VAKRHILDO_ROLL 12304
 
 /* number: 0, a plan; else the refusal. The rules are tried in the order 10 to 13 (for a roll), then
    1 to 9, each over the whole list before the next:
@@ -31,7 +35,8 @@ extern "C" {
        7  deadline offset above 2,147,483,647
        8  arrival offset below that of the report before
        9  no allowed plan: the place is the least i such that reports 0 to i have none
-   (14, an input longer than 65,536 bytes, is given by the program rollplan only.)
+   (14, an input longer than 65,536 bytes, is given by the program rollplan only; 15, too little room
+   in the buffer behind the place, by vakrhildo_write only, which has its own rules below.)
    place: the least report at fault, 0 where no report is.
    blocks: how many rows were written; 0 on a refusal. */
 typedef struct {
@@ -75,6 +80,31 @@ typedef struct {
 /* Reads a roll: its trailer, and where its records stand. No byte is copied. Rules 1 to 9 are not
    tried, so the count may be up to 65,535, and P and Q may be 0. */
 vakrhildo_reading vakrhildo_read(const uint8_t *roll, size_t roll_length);
+
+/* number: 0, the roll is written; else the refusal, of these in their order:
+       1  the three lists differ in length
+       2  more than 1,024 reports
+       4  P or Q above 65,535; a P or Q of 0 is written
+      15  too little room for the roll from byte at on, or at is behind the end of out
+   place: 0 always, as no report is at fault.
+   bytes: how many were written, 16 + 12 for each report; 0 on a refusal. */
+typedef struct {
+    uint32_t number;
+    size_t place;
+    size_t bytes;
+} vakrhildo_write_reply;
+
+/* Writes the roll of a list into out from byte at on: the records, then the trailer, as vakrhildo_read
+   reads them. The bytes before and behind the roll stay as they were, and on a refusal all of them. The
+   roll's end is at + bytes: out up to there is a roll whose preface is the bytes before at, and reads as
+   the list that went in. No other rule is tried, so lists are written that have no plan. at may be any
+   number. A list of length n is as for vakrhildo_plan, and where out_length is 0 out may be any pointer
+   that is not NULL. out must not overlap the lists. */
+vakrhildo_write_reply vakrhildo_write(const uint32_t *arrivals, size_t arrivals_length,
+                                      const uint32_t *deadlines, size_t deadlines_length,
+                                      const uint32_t *operations, size_t operations_length,
+                                      uint32_t reference, uint32_t p, uint32_t q,
+                                      uint8_t *out, size_t out_length, size_t at);
 
 #ifdef __cplusplus
 }

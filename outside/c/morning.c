@@ -1,9 +1,10 @@
-/* Plans one crowded morning of three reports, then reads and plans a roll that comes on standard input. */
+/* Plans one crowded morning of three reports, reads and plans a roll that comes on standard input, then
+   writes the morning's roll behind that one and plans it from there. */
 #include <stdio.h>
 #include "vakrhildo.h"
 
 static uint32_t rows[VAKRHILDO_ROW * VAKRHILDO_REPORTS];
-static uint8_t roll[65536];
+static uint8_t roll[65536 + VAKRHILDO_ROLL];
 
 static void show(vakrhildo_reply reply)
 {
@@ -19,9 +20,12 @@ int main(void)
     const uint32_t arrivals[] = {0, 0, 12}, deadlines[] = {4, 20, 16}, operations[] = {2, 2, 2};
     show(vakrhildo_plan(arrivals, 3, deadlines, 3, operations, 3, 0, 1, 1, rows, sizeof rows / sizeof *rows));
     show(vakrhildo_plan(arrivals, 3, deadlines, 2, operations, 3, 0, 1, 1, rows, sizeof rows / sizeof *rows));
-    size_t length = fread(roll, 1, sizeof roll, stdin);
+    size_t length = fread(roll, 1, 65536, stdin);
     vakrhildo_reading reading = vakrhildo_read(roll, length);
     printf("number %u reports %u: %zu bytes from byte %zu on\n", reading.number, reading.count, reading.size, reading.at);
     show(vakrhildo_plan_roll(roll, length, rows, sizeof rows / sizeof *rows));
+    vakrhildo_write_reply written = vakrhildo_write(arrivals, 3, deadlines, 3, operations, 3, 0, 1, 1, roll, sizeof roll, length);
+    printf("number %u place %zu: %zu bytes from byte %zu on\n", written.number, written.place, written.bytes, length);
+    show(vakrhildo_plan_roll(roll, length + written.bytes, rows, sizeof rows / sizeof *rows));
     return 0;
 }

@@ -1,12 +1,13 @@
-//! Plans one crowded morning of three reports, and says what a refusal means.
-use vakrhildo::{plan, rows, REPORTS, ROW};
+//! Plans one crowded morning of three reports, says what a refusal means, then writes a roll behind a
+//! preface and plans it from there.
+use vakrhildo::{plan, plan_roll, rows, write, Refusal, REPORTS, ROLL, ROW};
 
-fn main() {
-    let mut buffer = [0u32; ROW * REPORTS];
-    // arrivals, deadlines, operations; reference 0; at most one operation a tick
-    match plan(&[0, 0, 12], &[4, 20, 16], &[2, 2, 2], 0, 1, 1, &mut buffer) {
+const PREFACE: &[u8] = b"typed at eight";
+
+fn show(planned: Result<usize, Refusal>, buffer: &[u32]) {
+    match planned {
         Ok(blocks) => {
-            for row in rows(&buffer, blocks) {
+            for row in rows(buffer, blocks) {
                 println!(
                     "reports {} to {}: from {} to {}, {} operations",
                     row.first, row.last, row.start, row.end, row.operations
@@ -15,7 +16,25 @@ fn main() {
         }
         Err(refusal) => println!("{refusal}"),
     }
-    if let Err(refusal) = plan(&[0], &[4], &[5], 0, 1, 1, &mut buffer) {
-        println!("{refusal}");
+}
+
+fn main() {
+    let mut buffer = [0u32; ROW * REPORTS];
+    // arrivals, deadlines, operations; reference 0; at most one operation a tick
+    let planned = plan(&[0, 0, 12], &[4, 20, 16], &[2, 2, 2], 0, 1, 1, &mut buffer);
+    show(planned, &buffer);
+    let planned = plan(&[0], &[4], &[5], 0, 1, 1, &mut buffer);
+    show(planned, &buffer);
+
+    let at = PREFACE.len();
+    let mut out = [0u8; PREFACE.len() + ROLL];
+    out[..at].copy_from_slice(PREFACE);
+    match write(&[0, 6], &[10, 10], &[2, 2], 0, 1, 1, &mut out, at) {
+        Ok(bytes) => {
+            println!("a roll of {bytes} bytes from byte {at} on");
+            let planned = plan_roll(&out[..at + bytes], &mut buffer);
+            show(planned, &buffer);
+        }
+        Err(refusal) => println!("{refusal}"),
     }
 }

@@ -1,18 +1,22 @@
-//! Vakrhildo for Rust: the proved planner and the roll's reader behind safe functions.
+//! Vakrhildo for Rust: the proved planner, the roll's reader and its writer behind safe functions.
 //!
 //! `plan` takes three lists of readings, `plan_roll` a roll; both write rows of five numbers to the
 //! front of a buffer of the caller's and give back the number of rows, or a refusal that has left the
 //! buffer as it was. `read` gives back the numbers of a roll's trailer and the part of its bytes that
-//! holds the records. Every input of whatever length and content is answered. `plan_raw`,
-//! `plan_roll_raw` and `read_raw` give the library's own numbers, of which the others make a `Result`.
+//! holds the records. `write` writes the roll of three lists into a buffer of bytes from a place on.
+//! Every input of whatever length and content is answered. `plan_raw`, `plan_roll_raw`, `read_raw` and
+//! `write_raw` give the library's own numbers, of which the others make a `Result`.
 #![warn(missing_docs)]
 
 use std::fmt;
 
 /// The most reports a list may have.
 pub const REPORTS: usize = 1024;
-/// Numbers of a row. A buffer of `ROW * REPORTS` numbers is long enough for every list.
+/// Numbers of a row. A buffer of `ROW * REPORTS` numbers is long enough for the rows of every list.
 pub const ROW: usize = 5;
+/// Bytes of the longest roll that is written: a trailer of 16, and 12 for each report. A buffer with so
+/// many behind the place is long enough for the roll of every list.
+pub const ROLL: usize = 16 + 12 * REPORTS;
 
 /// A refusal: its number, and the report it concerns, 0 where no report is.
 #[derive(Clone, Copy, Debug, PartialEq, Eq)]
@@ -24,7 +28,8 @@ pub struct Refusal {
 }
 
 impl Refusal {
-    /// What the rule says.
+    /// What the rule says. 4 is the planner's wording, and true of the writer's as well: a P or Q above
+    /// 65,535 is outside. The writer does not give it for a P or Q of 0, which it writes.
     pub fn meaning(&self) -> &'static str {
         match self.number {
             1 => "the three lists differ in length",
@@ -40,6 +45,7 @@ impl Refusal {
             11 => "mark wrong",
             12 => "back distance is not 16 + 12 times the count",
             13 => "back distance exceeds the roll's length",
+            15 => "too little room in the buffer behind the place",
             _ => "unknown refusal",
         }
     }
@@ -135,6 +141,18 @@ pub struct Numbers {
     pub size: usize,
 }
 
+/// The library's own reply of the writer (`writer::WriteReply`): all three numbers, as they came.
+#[repr(C)]
+#[derive(Clone, Copy, Debug, PartialEq, Eq)]
+pub struct WriteReply {
+    /// 0, the roll is written; else the refusal: 1, 2, 4 or 15.
+    pub number: u32,
+    /// 0 always: no report is at fault.
+    pub place: usize,
+    /// How many bytes were written; 0 on a refusal.
+    pub bytes: usize,
+}
+
 // The functions of crates/vakrhildo: a slice is a pointer and a length.
 extern "C" {
     fn vakrhildo_plan(
@@ -159,15 +177,28 @@ extern "C" {
     ) -> Reply;
 
     fn vakrhildo_read(roll: *const u8, roll_length: usize) -> Numbers;
+
+    fn vakrhildo_write(
+        arrivals: *const u32,
+        arrivals_length: usize,
+        deadlines: *const u32,
+        deadlines_length: usize,
+        operations: *const u32,
+        operations_length: usize,
+        reference: u32,
+        p: u32,
+        q: u32,
+        out: *mut u8,
+        out_length: usize,
+        at: usize,
+    ) -> WriteReply;
 }
 
-fn blocks(reply: Reply) -> Result<usize, Refusal> {
-    match reply.number {
-        0 => Ok(reply.blocks),
-        number => Err(Refusal {
-            number,
-            place: reply.place,
-        }),
+/// How many rows or bytes were written, or the refusal.
+fn written(number: u32, place: usize, many: usize) -> Result<usize, Refusal> {
+    match number {
+        0 => Ok(many),
+        _ => Err(Refusal { number, place }),
     }
 }
 
@@ -182,9 +213,8 @@ pub fn plan(
     q: u32,
     rows: &mut [u32],
 ) -> Result<usize, Refusal> {
-    blocks(plan_raw(
-        arrivals, deadlines, operations, reference, p, q, rows,
-    ))
+    let reply = plan_raw(arrivals, deadlines, operations, reference, p, q, rows);
+    written(reply.number, reply.place, reply.blocks)
 }
 
 /// Plans a list, as `plan` does: the library's own reply.
@@ -218,7 +248,8 @@ pub fn plan_raw(
 
 /// Plans the list in a roll.
 pub fn plan_roll(roll: &[u8], rows: &mut [u32]) -> Result<usize, Refusal> {
-    blocks(plan_roll_raw(roll, rows))
+    let reply = plan_roll_raw(roll, rows);
+    written(reply.number, reply.place, reply.blocks)
 }
 
 /// Plans the list in a roll, as `plan_roll` does: the library's own reply.
@@ -246,4 +277,55 @@ pub fn read(roll: &[u8]) -> Result<Reading<'_>, Refusal> {
 pub fn read_raw(roll: &[u8]) -> Numbers {
     // Safety: as in `plan_raw`.
     unsafe { vakrhildo_read(roll.as_ptr(), roll.len()) }
+}
+
+/// Writes the roll of a list into a buffer, from byte `at` on: the records, then the trailer. It gives
+/// back how many bytes were written; the bytes before and behind them stay as they were, and on a
+/// refusal all of them. `read` and `plan_roll` take `&out[..at + bytes]`, in which what stands before
+/// `at` is the preface. Rules 1 and 2 are tried, 4 for a P or Q above 65,535, then 15, too little room
+/// behind `at`; no other, so lists are written that have no plan.
+#[allow(clippy::too_many_arguments)] // the library's own, in its order
+pub fn write(
+    arrivals: &[u32],
+    deadlines: &[u32],
+    operations: &[u32],
+    reference: u32,
+    p: u32,
+    q: u32,
+    out: &mut [u8],
+    at: usize,
+) -> Result<usize, Refusal> {
+    let reply = write_raw(arrivals, deadlines, operations, reference, p, q, out, at);
+    written(reply.number, reply.place, reply.bytes)
+}
+
+/// Writes the roll of a list, as `write` does: the library's own reply.
+#[allow(clippy::too_many_arguments)]
+pub fn write_raw(
+    arrivals: &[u32],
+    deadlines: &[u32],
+    operations: &[u32],
+    reference: u32,
+    p: u32,
+    q: u32,
+    out: &mut [u8],
+    at: usize,
+) -> WriteReply {
+    // Safety: as in `plan_raw`, with `out` borrowed alone; `at` may be any number.
+    unsafe {
+        vakrhildo_write(
+            arrivals.as_ptr(),
+            arrivals.len(),
+            deadlines.as_ptr(),
+            deadlines.len(),
+            operations.as_ptr(),
+            operations.len(),
+            reference,
+            p,
+            q,
+            out.as_mut_ptr(),
+            out.len(),
+            at,
+        )
+    }
 }

@@ -1,8 +1,8 @@
 //! The wrapper hands on what the library answers: rows, refusals with their places, buffers that stay,
-//! and the part of a roll that holds the records.
+//! the part of a roll that holds the records, and rolls that are written.
 
-use vakrhildo::{plan, plan_raw, plan_roll, plan_roll_raw, read, read_raw, rows};
-use vakrhildo::{Numbers, Reading, Refusal, Reply, Row, REPORTS, ROW};
+use vakrhildo::{plan, plan_raw, plan_roll, plan_roll_raw, read, read_raw, rows, write, write_raw};
+use vakrhildo::{Numbers, Reading, Refusal, Reply, Row, WriteReply, REPORTS, ROLL, ROW};
 
 const SAMPLE: [u8; 40] = [
     0x64, 0, 0, 0, 0x68, 0, 0, 0, 2, 0, 0, 0, 0x64, 0, 0, 0, 0x70, 0, 0, 0, 2, 0, 0, 0, 0x28, 0, 0,
@@ -158,9 +158,130 @@ fn a_roll_that_is_not_read_has_its_refusal_and_no_other_number() {
     }
 }
 
+/// Writes the list of 01's sample.
+fn write_sample(out: &mut [u8], at: usize) -> Result<usize, Refusal> {
+    write(&[100, 100], &[104, 112], &[2, 2], 100, 1, 1, out, at)
+}
+
+#[test]
+fn a_roll_is_written_from_the_place_on_and_the_rest_stays() {
+    let mut exact = [7u8; 40];
+    assert_eq!(write_sample(&mut exact, 0), Ok(40));
+    assert_eq!(exact, SAMPLE);
+    for at in [0, 1, 9, 20] {
+        let mut out = [7u8; 60];
+        assert_eq!(write_sample(&mut out, at), Ok(40));
+        assert_eq!(out[..at], [7; 60][..at]);
+        assert_eq!(out[at..at + 40], SAMPLE);
+        assert_eq!(out[at + 40..], [7; 60][at + 40..]);
+    }
+}
+
+#[test]
+fn what_is_written_reads_and_plans_as_the_list_that_went_in() {
+    let mut out = [7u8; 60];
+    assert_eq!(write_sample(&mut out, 9), Ok(40));
+    let roll = &out[..49];
+    let reading = read(roll).expect("a roll");
+    assert!(std::ptr::eq(reading.part, &out[9..33]));
+    assert_eq!((reading.count, reading.reference), (2, 100));
+    assert_eq!((reading.p, reading.q), (1, 1));
+    let mut buffer = [7u32; 10];
+    assert_eq!(plan_roll(roll, &mut buffer), Ok(2));
+    assert_eq!(buffer, [0, 0, 0, 4, 2, 1, 1, 4, 12, 2]);
+}
+
+#[test]
+fn a_refusal_of_the_writer_writes_nothing() {
+    let many = [0; REPORTS + 1];
+    let mut out = [7u8; ROLL + 12];
+    let refused = |number| Err(Refusal { number, place: 0 });
+    for (a, d, w) in [(1, 2, 2), (2, 1, 2), (2, 2, 1), (2, 2, 3)] {
+        let (a, d, w) = (&many[..a], &many[..d], &many[..w]);
+        assert_eq!(write(a, d, w, 0, 1, 1, &mut out, 0), refused(1));
+    }
+    assert_eq!(write(&many, &many, &many, 0, 1, 1, &mut out, 0), refused(2));
+    for (p, q) in [(65_536, 1), (1, 65_536), (u32::MAX, 0), (0, u32::MAX)] {
+        assert_eq!(write(&[0], &[9], &[1], 0, p, q, &mut out, 0), refused(4));
+    }
+    assert_eq!(write_sample(&mut out[..39], 0), refused(15));
+    assert_eq!(write_sample(&mut [], 0), refused(15));
+    let length = out.len();
+    for at in [length - 39, length - 15, length, length + 1] {
+        assert_eq!(write_sample(&mut out, at), refused(15));
+    }
+    for short in [0, 1, 39, 40, 41] {
+        assert_eq!(write_sample(&mut out, usize::MAX - short), refused(15));
+    }
+    assert_eq!(out, [7; ROLL + 12]);
+}
+
+#[test]
+fn the_rules_of_the_writer_are_tried_in_their_order() {
+    let (few, many) = ([0; 2], [0; REPORTS + 1]);
+    let mut out = [7u8; 15];
+    let mut number = |a: &[u32], d: &[u32], p| write_raw(a, d, d, 0, p, 1, &mut out, 9).number;
+    assert_eq!(number(&few, &many, 65_536), 1);
+    assert_eq!(number(&many, &few, 65_536), 1);
+    assert_eq!(number(&many, &many, 65_536), 2);
+    assert_eq!(number(&few, &few, 65_536), 4);
+    assert_eq!(number(&few, &few, 65_535), 15);
+}
+
+#[test]
+fn a_roll_is_written_that_has_no_plan() {
+    let mut out = [7u8; 40];
+    // P and Q of 0, arrivals that fall, operations 0 and above 65,535
+    let written = write(&[5, 4], &[0, u32::MAX], &[0, 65_536], 9, 0, 0, &mut out, 0);
+    assert_eq!(written, Ok(40));
+    assert_eq!(out[12..24], [4, 0, 0, 0, 255, 255, 255, 255, 0, 0, 1, 0]);
+    assert_eq!(out[24..], *b"\x28\0\0\0\x09\0\0\0\x02\0\0\0\0\0AQ");
+    let refused = Refusal {
+        number: 4,
+        place: 0,
+    };
+    assert_eq!(plan_roll(&out, &mut [0; 10]), Err(refused));
+    assert_eq!(
+        write(&[5], &[0], &[0], 9, 65_535, 258, &mut out, 12),
+        Ok(28)
+    );
+    assert_eq!(out[34..], [255, 255, 2, 1, 0x41, 0x51]);
+}
+
+#[test]
+fn the_shortest_and_the_longest_roll_are_written() {
+    let mut out = [7u8; 16];
+    assert_eq!(write(&[], &[], &[], 0, 1, 2, &mut out, 0), Ok(16));
+    assert_eq!(out, *b"\x10\0\0\0\0\0\0\0\0\0\x01\0\x02\0AQ");
+    let list: Vec<u32> = (0..REPORTS as u32).collect();
+    let mut out = [7u8; ROLL];
+    let written = write(&list, &list, &list, 0, 1, 2, &mut out, 0);
+    assert_eq!(written, Ok(ROLL));
+    assert_eq!(read(&out).map(|reading| reading.part.len()), Ok(ROLL - 16));
+    assert_eq!(out[ROLL - 16..ROLL - 12], (ROLL as u32).to_le_bytes());
+}
+
+#[test]
+fn the_writers_own_reply_has_all_three_numbers() {
+    let mut out = [7u8; 30];
+    let reply = |number, bytes| WriteReply {
+        number,
+        place: 0,
+        bytes,
+    };
+    assert_eq!(
+        write_raw(&[1], &[2], &[3], 0, 1, 1, &mut out, 2),
+        reply(0, 28)
+    );
+    assert_eq!(
+        write_raw(&[1], &[2], &[3], 0, 1, 1, &mut out, 3),
+        reply(15, 0)
+    );
+}
+
 #[test]
 fn every_refusal_has_a_meaning() {
-    for number in 1..=13 {
+    for number in (1..=13).chain([15]) {
         let refusal = Refusal { number, place: 3 };
         assert_ne!(refusal.meaning(), "unknown refusal");
         assert!(refusal
@@ -178,4 +299,9 @@ fn nothing_is_answered_too() {
     };
     assert_eq!(plan_roll(&[], &mut []), Err(short));
     assert_eq!(read(&[]), Err(short));
+    let no_room = Refusal {
+        number: 15,
+        place: 0,
+    };
+    assert_eq!(write(&[], &[], &[], 0, 1, 1, &mut [], 0), Err(no_room));
 }
