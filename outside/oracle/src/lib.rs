@@ -1,10 +1,10 @@
 //! An independent answerer for lists of reports and for roll files.
 //!
 //! This file holds the public interface: what is handed in (`List`), what comes back (`Answer`,
-//! `Reading`), and the entry points for a plain list, for a roll, for the whole input of the program
-//! and for the reading of a roll alone.
-//! The rules stand in `rules`, the rows are found in `spans`, rolls are read in `roll`, and `check`
-//! tests an accepted answer against the definitions themselves.
+//! `Reading`, `Carried`, `Written`), and the entry points for a plain list, for a roll, for the whole
+//! input of the program, for the reading of a roll alone and for the writing of one.
+//! The rules stand in `rules`, the rows are found in `spans`, rolls are read in `roll` and written in
+//! `write`, which share nothing, and `check` tests an accepted answer against the definitions themselves.
 #![forbid(unsafe_code)]
 #![warn(missing_docs)]
 
@@ -13,6 +13,9 @@ mod fraction;
 mod roll;
 mod rules;
 mod spans;
+mod write;
+
+pub use roll::Carried;
 
 /// The most reports a roll may carry.
 const MOST_REPORTS: usize = 1_024;
@@ -21,7 +24,7 @@ const ROW_NUMBERS: usize = 5;
 /// The longest input the program takes, in bytes.
 const LONGEST_INPUT: usize = 65_536;
 
-/// What is handed to the planner.
+/// What is handed to the planner, or to the writer of rolls.
 pub struct List<'a> {
     /// Arrival readings.
     pub arrivals: &'a [u32],
@@ -35,7 +38,7 @@ pub struct List<'a> {
     pub p: u32,
     /// Q of the fastest pace P/Q.
     pub q: u32,
-    /// Length of the row buffer in 32-bit numbers.
+    /// Length of the row buffer in 32-bit numbers. The writer has none, and does not look at it.
     pub room: usize,
 }
 
@@ -67,6 +70,19 @@ pub struct Reading {
     pub at: usize,
     /// How many bytes the records have together.
     pub size: usize,
+}
+
+/// What the writer of rolls gives back, and what the buffer then holds.
+#[derive(Clone, Debug, PartialEq, Eq)]
+pub struct Written {
+    /// 0 for a roll that is written, otherwise the number of the refusal: 1, 2, 4 or 15.
+    pub number: u32,
+    /// 0: no report is at fault.
+    pub place: usize,
+    /// How many bytes were written, 0 on a refusal.
+    pub bytes: usize,
+    /// The whole buffer.
+    pub buffer: Vec<u8>,
 }
 
 /// Offsets of an accepted list, with its operations and fastest pace, for the checks.
@@ -110,7 +126,7 @@ pub fn answer_roll(roll: &[u8], room: usize) -> Answer {
     match roll::read(roll) {
         Err(number) => refused(number, 0),
         Ok(reading) => {
-            let carried = roll::carried(&roll[reading.at..][..reading.size]);
+            let carried = list_in(roll, &reading);
             answer_list(&List {
                 arrivals: &carried.arrivals,
                 deadlines: &carried.deadlines,
@@ -131,6 +147,18 @@ pub fn read_roll(roll: &[u8]) -> Reading {
         number,
         ..Reading::default()
     })
+}
+
+/// The list in a roll, of which this was read; empty where it was refused.
+pub fn list_in(roll: &[u8], reading: &Reading) -> Carried {
+    roll::carried(&roll[reading.at..][..reading.size])
+}
+
+/// What the writer of rolls gives back for this list, and what this buffer then holds, where the roll is
+/// to stand from byte `at` on: refusals 1, 2, 4 (here for P or Q above 65,535 only) and 15, in this
+/// order, no other.
+pub fn write_roll(list: &List, buffer: &[u8], at: usize) -> Written {
+    write::write(list, buffer, at)
 }
 
 /// What program `rollplan` prints for this input: refusal 14 before all others, row room for

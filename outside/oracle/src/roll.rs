@@ -9,9 +9,13 @@ const RECORD: usize = 12;
 const MARK: [u8; 2] = [0x41, 0x51];
 
 /// The list in an accepted roll.
+#[derive(Clone, Debug, PartialEq, Eq)]
 pub struct Carried {
+    /// Arrival readings.
     pub arrivals: Vec<u32>,
+    /// Deadline readings.
     pub deadlines: Vec<u32>,
+    /// Operations of each report.
     pub operations: Vec<u32>,
 }
 

@@ -9,3 +9,4 @@ mod sizes;
 mod slips;
 mod sums;
 mod table;
+mod writings;
