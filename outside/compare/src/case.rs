@@ -1,10 +1,11 @@
-//! What is compared: a list, a roll, or an input of the program; and a line of text for each, from
-//! which it can be run alone (`compare --case LINE`).
+//! What is compared: a list, a roll, an input of the program, or a list to be written; and a line of
+//! text for each, from which it can be run alone (`compare --case LINE`).
 
 use std::fmt::Write;
-use vakrhildo::{Numbers, Reply};
+use vakrhildo::{Numbers, Reply, WriteReply};
 
-/// What a planner is handed; `room` is the length of the row buffer.
+/// What a planner or a writer is handed; `room` is the length of the lent buffer: of the row buffer in
+/// numbers, of the one for a roll in bytes.
 #[derive(Clone, Debug, PartialEq, Eq)]
 pub struct List {
     pub arrivals: Vec<u32>,
@@ -21,11 +22,13 @@ pub enum Case {
     List(List),
     Roll { bytes: Vec<u8>, room: usize },
     Program { bytes: Vec<u8> },
+    Write { list: List, at: usize },
 }
 
-/// What is compared: the library's three functions, with the numbers that they give back as they came;
-/// the rows go to the front of the buffer. Where nothing else is said they are the proved ones. The
-/// lists and the roll are lent as if they could be changed, so that a wrong one can do so.
+/// What is compared: the library's four functions, with the numbers that they give back as they came;
+/// the rows go to the front of the buffer, a roll from its place on. Where nothing else is said they are
+/// the proved ones. The lists and the roll are lent as if they could be changed, so that a wrong one can
+/// do so.
 pub trait Library {
     fn plan(&self, l: &mut List, rows: &mut [u32]) -> Reply {
         vakrhildo::plan_raw(
@@ -45,6 +48,19 @@ pub trait Library {
 
     fn read(&self, roll: &mut [u8]) -> Numbers {
         vakrhildo::read_raw(roll)
+    }
+
+    fn write(&self, l: &mut List, out: &mut [u8], at: usize) -> WriteReply {
+        vakrhildo::write_raw(
+            &l.arrivals,
+            &l.deadlines,
+            &l.operations,
+            l.reference,
+            l.p,
+            l.q,
+            out,
+            at,
+        )
     }
 }
 
@@ -67,22 +83,45 @@ fn hex(bytes: &[u8]) -> String {
     })
 }
 
+impl List {
+    /// The list in a line: seven parts.
+    fn parts(&self) -> String {
+        format!(
+            "{}:{}:{}:{}:{}:{}:{}",
+            numbers(&self.arrivals),
+            numbers(&self.deadlines),
+            numbers(&self.operations),
+            self.reference,
+            self.p,
+            self.q,
+            self.room
+        )
+    }
+
+    fn parse(parts: &[&str]) -> Option<List> {
+        let &[a, d, w, reference, p, q, room] = parts else {
+            return None;
+        };
+        Some(List {
+            arrivals: parse_numbers(a)?,
+            deadlines: parse_numbers(d)?,
+            operations: parse_numbers(w)?,
+            reference: reference.parse().ok()?,
+            p: p.parse().ok()?,
+            q: q.parse().ok()?,
+            room: room.parse().ok()?,
+        })
+    }
+}
+
 impl Case {
     /// The case as one line, without spaces.
     pub fn line(&self) -> String {
         match self {
-            Case::List(l) => format!(
-                "list:{}:{}:{}:{}:{}:{}:{}",
-                numbers(&l.arrivals),
-                numbers(&l.deadlines),
-                numbers(&l.operations),
-                l.reference,
-                l.p,
-                l.q,
-                l.room
-            ),
+            Case::List(l) => format!("list:{}", l.parts()),
             Case::Roll { bytes, room } => format!("roll:{}:{room}", hex(bytes)),
             Case::Program { bytes } => format!("program:{}", hex(bytes)),
+            Case::Write { list, at } => format!("write:{}:{at}", list.parts()),
         }
     }
 
@@ -90,21 +129,17 @@ impl Case {
     pub fn parse(line: &str) -> Option<Case> {
         let parts: Vec<&str> = line.trim().split(':').collect();
         match parts[..] {
-            ["list", a, d, w, reference, p, q, room] => Some(Case::List(List {
-                arrivals: parse_numbers(a)?,
-                deadlines: parse_numbers(d)?,
-                operations: parse_numbers(w)?,
-                reference: reference.parse().ok()?,
-                p: p.parse().ok()?,
-                q: q.parse().ok()?,
-                room: room.parse().ok()?,
-            })),
+            ["list", ref list @ ..] => List::parse(list).map(Case::List),
             ["roll", bytes, room] => Some(Case::Roll {
                 bytes: parse_hex(bytes)?,
                 room: room.parse().ok()?,
             }),
             ["program", bytes] => Some(Case::Program {
                 bytes: parse_hex(bytes)?,
+            }),
+            ["write", ref list @ .., at] => Some(Case::Write {
+                list: List::parse(list)?,
+                at: at.parse().ok()?,
             }),
             _ => None,
         }
@@ -143,15 +178,21 @@ mod tests {
             room: 11,
         };
         for case in [
-            Case::List(list),
+            Case::List(list.clone()),
             Case::Roll {
                 bytes: vec![0, 255, 65],
                 room: 5,
             },
             Case::Program { bytes: vec![] },
+            Case::Write {
+                list,
+                at: usize::MAX,
+            },
         ] {
             assert_eq!(Case::parse(&case.line()), Some(case));
         }
-        assert_eq!(Case::parse("roll:0:5"), None);
+        for line in ["roll:0:5", "list:::::1:2", "write:::::1:2:3", "write"] {
+            assert_eq!(Case::parse(line), None);
+        }
     }
 }

@@ -1,7 +1,9 @@
 //! Compares one case with the independent program: the three numbers as they came, every number of
 //! the row buffer and a margin on both sides of it, and, where a plan comes back, the plan with the
 //! definitions; for a roll also the seven numbers of the reader. What was lent to be read has to be as
-//! it was.
+//! it was. The writer is compared in `write`.
+
+mod write;
 
 use crate::case::{Case, Library, List};
 use crate::tally::Tally;
@@ -135,7 +137,7 @@ fn judge_list(
     Ok(answer.number)
 }
 
-/// The reader's numbers of a roll.
+/// The reader's numbers of a roll, and what is packed of them again.
 fn judge_reading(library: &dyn Library, bytes: &[u8], tally: &mut Tally) -> Result<(), String> {
     let reading = oracle::read_roll(bytes);
     let wanted = Numbers {
@@ -154,7 +156,7 @@ fn judge_reading(library: &dyn Library, bytes: &[u8], tally: &mut Tally) -> Resu
     }
     untouched(&lent[..], bytes)?;
     tally.readings[reading.number as usize] += 1;
-    Ok(())
+    write::packs_again(library, bytes, &reading, tally)
 }
 
 fn judge_roll(
@@ -227,9 +229,14 @@ pub fn judge(
         Case::List(l) => judge_list(library, l, depth, tally),
         Case::Roll { bytes, room } => judge_roll(library, bytes, *room, tally),
         Case::Program { bytes } => judge_program(library, program, bytes, tally),
+        Case::Write { list, at } => write::judge(library, list, *at, tally),
     };
     let number =
         judged.map_err(|what| format!("{what}\nrun it alone: compare --case {}", case.line()))?;
-    tally.answers[number as usize] += 1;
+    let counts = match case {
+        Case::Write { .. } => &mut tally.writings,
+        _ => &mut tally.answers,
+    };
+    counts[number as usize] += 1;
     Ok(())
 }

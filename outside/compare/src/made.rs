@@ -1,9 +1,12 @@
 //! Makes the cases: 01's table, every small list, random lists small and large, near the line between
-//! accepted and refused, lists at the edges of each rule; in `roll`, rolls and inputs of the program.
+//! accepted and refused, lists at the edges of each rule; in `roll`, rolls and inputs of the program; in
+//! `write`, lists that are to be written.
 
 mod roll;
+mod write;
 
 pub use roll::{damaged_sample, inputs, long_rolls, rolls};
+pub use write::{rolls_to_pack, write_edges, write_table, writings};
 
 use crate::case::{Case, List};
 use crate::judge::{Depth, PROPERTIES};

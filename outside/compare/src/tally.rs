@@ -2,8 +2,12 @@
 
 use std::collections::BTreeMap;
 
-/// The numbers an answer can have.
-pub const NUMBERS: usize = 15;
+/// The numbers that the library and the program have, 0 to 15.
+pub const NUMBERS: usize = 16;
+/// Those of an answer, of the reader and of the writer.
+const OF_ANSWERS: [usize; 15] = [0, 1, 2, 3, 4, 5, 6, 7, 8, 9, 10, 11, 12, 13, 14];
+const OF_READINGS: [usize; 5] = [0, 10, 11, 12, 13];
+const OF_WRITINGS: [usize; 5] = [0, 1, 2, 4, 15];
 
 #[derive(Default)]
 pub struct Tally {
@@ -11,6 +15,14 @@ pub struct Tally {
     pub answers: [u64; NUMBERS],
     /// Rolls of which the reader's numbers were compared, by its number: 0 and 10 to 13.
     pub readings: [u64; NUMBERS],
+    /// Lists that were to be written, by the writer's number: 0, 1, 2, 4 and 15.
+    pub writings: [u64; NUMBERS],
+    /// Rolls that were written, then read and planned as the lists that went in.
+    pub read_back: u64,
+    /// Those of them that have a plan.
+    pub planned_back: u64,
+    /// Rolls without preface that were read, then packed again.
+    pub packed_again: u64,
     /// Accepted answers held against the definitions themselves.
     pub plans: u64,
     /// Rival plans whose sum at a threshold was compared.
@@ -26,14 +38,30 @@ impl Tally {
         self.groups.values().sum()
     }
 
-    /// The numbers met fewer than `least` times: as an answer, 0 to 14, or from the reader, 0 and 10 to 13.
-    pub fn rare(&self, least: u64) -> Vec<usize> {
-        (0..NUMBERS)
-            .filter(|&number| {
-                let read = number == 0 || (10..=13).contains(&number);
-                self.answers[number] < least || read && self.readings[number] < least
-            })
-            .collect()
+    /// What was met fewer than `least` times: a number of an answer, of the reader or of the writer, a
+    /// roll written and planned or read and packed again, a clock that runs past its top.
+    pub fn rare(&self, least: u64) -> Vec<String> {
+        let numbers = |kind: &'static str, counts: &[u64; NUMBERS], of: &[usize]| {
+            let met = of.iter().map(|&number| (number, counts[number]));
+            met.map(|(number, count)| (format!("{kind} {number}"), count))
+                .collect::<Vec<_>>()
+        };
+        let others = [
+            ("a roll written and planned", self.planned_back),
+            ("a roll read and packed again", self.packed_again),
+            ("a clock that runs past its top", self.wrapped),
+        ];
+        let all = [
+            numbers("answer", &self.answers, &OF_ANSWERS),
+            numbers("reading", &self.readings, &OF_READINGS),
+            numbers("writing", &self.writings, &OF_WRITINGS),
+            others.map(|(what, count)| (what.into(), count)).to_vec(),
+        ];
+        let rare = all
+            .into_iter()
+            .flatten()
+            .filter(|(_, count)| *count < least);
+        rare.map(|(what, _)| what).collect()
     }
 
     pub fn print(&self) {
@@ -54,8 +82,17 @@ impl Tally {
             "{} lists in which the clock runs past its top",
             self.wrapped
         );
+        println!(
+            "{} rolls written, then read and planned as the lists that went in, {} of them with a plan",
+            self.read_back, self.planned_back
+        );
+        println!(
+            "{} rolls without preface read, then packed again",
+            self.packed_again
+        );
         println!("answers by number: {}", by_number(&self.answers));
         println!("readings by number: {}", by_number(&self.readings));
+        println!("writings by number: {}", by_number(&self.writings));
     }
 }
 

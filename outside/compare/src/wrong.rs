@@ -1,4 +1,6 @@
-//! Planners and readers that are wrong on purpose. The comparer has to catch each.
+//! Planners and readers that are wrong on purpose, and in `write` writers. The comparer has to catch each.
+
+pub mod write;
 
 use crate::case::{Library, List, Proved};
 use vakrhildo::{Numbers, Reply};

@@ -1,10 +1,11 @@
-//! The comparer is itself tested: planners and readers that are wrong on purpose are caught, the failing
-//! case can be run alone and fails again, and the proved library passes the same cases.
+//! The comparer is itself tested: planners, readers and writers that are wrong on purpose are caught, the
+//! failing case can be run alone and fails again, and the proved library passes the same cases.
 
 use compare::case::{Case, Library, Proved};
 use compare::judge::{judge, Depth, ANSWER, PROPERTIES};
 use compare::made::{self, Dice, Take};
 use compare::tally::Tally;
+use compare::wrong::write::{self, Writer};
 use compare::wrong::{
     FirstAlike, FirstAtTies, ReaderTouches, Rounded, Spills, Touches, BLOCK_OF_A_REFUSAL,
     BYTE_EARLY, BYTE_SHORT, LEFT, PLACE_OFF, PLACE_OF_A_PLAN,
@@ -22,6 +23,17 @@ fn lists(take: &mut Take) -> Result<(), String> {
 
 fn rolls(take: &mut Take) -> Result<(), String> {
     made::rolls(take, &mut Dice(7), 5_000)
+}
+
+fn writings(take: &mut Take) -> Result<(), String> {
+    let dice = &mut Dice(7);
+    made::writings(take, dice, 3_000)?;
+    made::write_edges(take, dice, 3_000)?;
+    made::write_table(take, dice)
+}
+
+fn packings(take: &mut Take) -> Result<(), String> {
+    made::rolls_to_pack(take, &mut Dice(7), 1_000)
 }
 
 fn compared(library: &dyn Library, cases: Cases) -> Result<Tally, String> {
@@ -61,6 +73,12 @@ fn the_proved_library_passes() {
     let tally = compared(&Proved, rolls).expect("no difference");
     assert_eq!(tally.cases(), 5_000);
     assert_eq!(tally.readings.iter().sum::<u64>(), 5_000);
+    let tally = compared(&Proved, writings).expect("no difference");
+    assert_eq!(tally.writings.iter().sum::<u64>(), tally.cases());
+    assert_eq!(tally.read_back, tally.writings[0]);
+    assert!(tally.planned_back > 1_000);
+    let tally = compared(&Proved, packings).expect("no difference");
+    assert!(tally.packed_again > 900);
 }
 
 #[test]
@@ -123,4 +141,55 @@ fn a_change_of_what_was_lent_to_be_read_is_caught() {
     caught(&Touches, lists, reason);
     caught(&Touches, rolls, reason);
     caught(&ReaderTouches, rolls, reason);
+}
+
+/// Writers that are caught by the bytes of the buffer, or of the margins.
+#[test]
+fn a_writer_with_wrong_bytes_is_caught() {
+    for writer in [
+        write::FIELDS_EXCHANGED,
+        write::P_AND_Q_EXCHANGED,
+        write::BIG_ENDIAN,
+        write::MARK_FIRST,
+        write::BACK_TO_THE_TRAILER,
+        write::EARLY,
+        write::LATE,
+        write::TOUCHES_BEHIND,
+        write::TOUCHES_BEFORE,
+    ] {
+        caught(&writer, writings, "of the buffer is");
+        caught(&writer, packings, "packed again: byte ");
+    }
+    caught(&write::REFUSAL_WRITES, writings, "byte 0 of the buffer is");
+}
+
+/// Writers that are caught by what they give back, and what that is.
+#[test]
+fn a_writer_with_wrong_numbers_is_caught() {
+    let says = |writer: Writer, numbers: &str| {
+        let reason = format!("answered WriteReply {{ number: {numbers}");
+        caught(&writer, writings, &reason);
+    };
+    says(write::ZERO_REFUSED, "4, place: 0, bytes: 0 }");
+    says(write::ROOM_FIRST, "15, place: 0, bytes: 0 }");
+    says(write::EXACT_FIT_REFUSED, "15, place: 0, bytes: 0 }");
+    says(write::CLAIMS_WITHOUT_ROOM, "0, place: 0, bytes: ");
+    says(write::CLAIMS_PAST_THE_TOP, "0, place: 0, bytes: ");
+    says(write::BYTES_OF_A_REFUSAL, "");
+    says(write::PLACE_OF_A_ROLL, "0, place: ");
+    says(write::PLACE_OF_A_REFUSAL, "");
+}
+
+#[test]
+fn a_writer_that_touches_its_lists_is_caught() {
+    let reason = "what was lent to be read has changed";
+    caught(&write::TOUCHES_LISTS, writings, reason);
+    caught(&write::TOUCHES_LISTS, packings, reason);
+}
+
+/// What was written goes round: a reader or a planner that is wrong about it is caught.
+#[test]
+fn what_is_written_is_read_and_planned() {
+    caught(&BYTE_EARLY, writings, "read back Numbers");
+    caught(&Rounded, writings, "planned back ");
 }

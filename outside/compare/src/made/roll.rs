@@ -6,7 +6,7 @@ use crate::case::{Case, List};
 use crate::judge::ANSWER;
 
 /// The roll of a list, without a preface.
-fn roll_of(l: &List) -> Vec<u8> {
+pub fn roll_of(l: &List) -> Vec<u8> {
     let mut bytes = Vec::new();
     for i in 0..l.arrivals.len() {
         for number in [l.arrivals[i], l.deadlines[i], l.operations[i]] {
