@@ -1,5 +1,5 @@
 //! Compares the proved library with the independent program, prints how much was compared, and fails
-//! at the first difference, or where some number was met fewer than a hundred times.
+//! at the first difference, or where a number of some function was met fewer than a hundred times.
 //!
 //! compare PATH-TO-ROLLPLAN [SEED]     all groups
 //! compare --case LINE [PATH]          one case, as a failure prints it

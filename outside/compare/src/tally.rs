@@ -41,27 +41,25 @@ impl Tally {
     /// What was met fewer than `least` times: a number of an answer, of the reader or of the writer, a
     /// roll written and planned or read and packed again, a clock that runs past its top.
     pub fn rare(&self, least: u64) -> Vec<String> {
-        let numbers = |kind: &'static str, counts: &[u64; NUMBERS], of: &[usize]| {
-            let met = of.iter().map(|&number| (number, counts[number]));
-            met.map(|(number, count)| (format!("{kind} {number}"), count))
-                .collect::<Vec<_>>()
-        };
+        let functions = [
+            ("answer", &self.answers, &OF_ANSWERS[..]),
+            ("reading", &self.readings, &OF_READINGS),
+            ("writing", &self.writings, &OF_WRITINGS),
+        ];
+        let numbers = functions.iter().flat_map(|(kind, counts, numbers)| {
+            let met = move |&number: &usize| (format!("{kind} {number}"), counts[number]);
+            numbers.iter().map(met)
+        });
         let others = [
             ("a roll written and planned", self.planned_back),
             ("a roll read and packed again", self.packed_again),
             ("a clock that runs past its top", self.wrapped),
         ];
-        let all = [
-            numbers("answer", &self.answers, &OF_ANSWERS),
-            numbers("reading", &self.readings, &OF_READINGS),
-            numbers("writing", &self.writings, &OF_WRITINGS),
-            others.map(|(what, count)| (what.into(), count)).to_vec(),
-        ];
-        let rare = all
-            .into_iter()
-            .flatten()
-            .filter(|(_, count)| *count < least);
-        rare.map(|(what, _)| what).collect()
+        numbers
+            .chain(others.map(|(what, count)| (what.into(), count)))
+            .filter(|(_, count)| *count < least)
+            .map(|(what, _)| what)
+            .collect()
     }
 
     pub fn print(&self) {
@@ -103,4 +101,29 @@ fn by_number(counts: &[u64; NUMBERS]) -> String {
         .map(|number| format!("{number}: {}", counts[number]))
         .collect();
     met.join(", ")
+}
+
+#[cfg(test)]
+mod tests {
+    use super::{Tally, NUMBERS};
+
+    #[test]
+    fn what_is_rare_is_named() {
+        let mut tally = Tally {
+            answers: [100; NUMBERS],
+            readings: [100; NUMBERS],
+            writings: [100; NUMBERS],
+            planned_back: 100,
+            packed_again: 100,
+            wrapped: 100,
+            ..Tally::default()
+        };
+        assert!(tally.rare(100).is_empty());
+        // no function gives these
+        (tally.answers[15], tally.readings[9], tally.writings[3]) = (0, 0, 0);
+        assert!(tally.rare(100).is_empty());
+        (tally.answers[14], tally.readings[13], tally.writings[15]) = (99, 99, 99);
+        assert_eq!(tally.rare(100), ["answer 14", "reading 13", "writing 15"]);
+        assert_eq!(Tally::default().rare(100).len(), 15 + 5 + 5 + 3);
+    }
 }

@@ -91,8 +91,8 @@ pub fn writings(take: &mut Take, dice: &mut Dice, times: u64) -> Done {
         } else {
             any_list(dice, n)
         };
-        let at;
-        (l.room, at) = roomy(dice, long(&l));
+        let (room, at) = roomy(dice, long(&l));
+        l.room = room;
         write(take, "lists written at a place", l, at)?;
     }
     Ok(())
@@ -127,12 +127,12 @@ pub fn write_edges(take: &mut Take, dice: &mut Dice, times: u64) -> Done {
             let pace = PACES[dice.below(5) as usize];
             *if dice.once_in(2) { &mut l.p } else { &mut l.q } = pace;
         }
-        let at;
-        (l.room, at) = if dice.once_in(2) {
+        let (room, at) = if dice.once_in(2) {
             cramped(dice, long(&l))
         } else {
             roomy(dice, long(&l))
         };
+        l.room = room;
         write(take, "lists written, at the edges of the rules", l, at)?;
     }
     Ok(())
@@ -142,7 +142,8 @@ pub fn write_edges(take: &mut Take, dice: &mut Dice, times: u64) -> Done {
 /// and longer, and places on both sides of theirs: each with each.
 pub fn write_table(take: &mut Take, dice: &mut Dice) -> Done {
     let group = "lists written, each edge with each";
-    let paces = [(1, 1), (0, 0), (65_535, 65_535), (65_536, 1), (1, 65_536)];
+    let written = [(1, 1), (0, 0), (65_535, 65_535)];
+    let too_wide = [(65_536, 1), (1, 65_536), (u32::MAX, 0), (0, u32::MAX)];
     for n in [0, 1, 2, 1_023, 1_024, 1_025] {
         let l = any_list(dice, n);
         let long = long(&l);
@@ -151,7 +152,7 @@ pub fn write_table(take: &mut Take, dice: &mut Dice) -> Done {
             let near = [0, 1, last / 2, last, last + 1, room, room + 1];
             let far = [0, 1, 15, 16, long - 1, long].map(|short| usize::MAX - short);
             for at in near.into_iter().chain(far) {
-                for (p, q) in paces {
+                for (p, q) in written.into_iter().chain(too_wide) {
                     let l = List {
                         p,
                         q,
