@@ -1,4 +1,4 @@
--- The bytes of a roll, as they are written (01, "The roll"): records, then the trailer, then the mark. The reader has these words in roll/specs/Format.antt; what a roll shows to the reader is `shown`.
+-- The bytes of a roll, as they are written (01, "The roll"): records, then the trailer, whose last two bytes are the mark; and what it is for a roll to read back. Mark, trailer and what is read are the reader's words, roll/specs/Format.antt.
 -- Assumes nothing.
 use Prim.Native.Nat.{ℕ, zero, suc, _+_, _*_, _/_, _%_, _<_}
 use mathlib.Core.Path.{_≡_}
