@@ -3,7 +3,7 @@
 -- the place in it; number, place, bytes and after are what `write` returns and what the buffer then holds.
 -- Nothing is assumed.
 use Prim.Native.Nat.{ℕ, _+_, _*_, _≤_, _<_}
-use mathlib.Core.Path.{_≡_, sym, ap, subst}
+use mathlib.Core.Path.{_≡_, sym, _∙_, ap, subst}
 use mathlib.Core.List.{List, _++_}
 use mathlib.Core.Logic.{_↔_}
 use lib.ListN.{length, getD, take, drop}
@@ -13,7 +13,7 @@ use Rattle.rules.specs.Offsets.{Input, reportsOf, fastestOf}
 use Rattle.rules.specs.Rules.{planRules}
 use Rattle.planner.specs.Outcome.{PlanOutcome}
 use Rattle.planner.proofs.Outcomes.{goes-on}
-use Rattle.roll.specs.Format.{countOf, referenceOf, pOf, qOf, backOf, fileRules, recordsOf, columnIn, inputOf, RollOutcome}
+use Rattle.roll.specs.Format.{countOf, referenceOf, pOf, qOf, backOf, fileRules, recordsAt, recordsOf, columnIn, inputOf, RollOutcome}
 use Rattle.roll.specs.Answers.{NumbersIs, PartFrom, PartIs}
 use Rattle.roll.specs.declared.Numbers.{Numbers}
 use Rattle.roll.proofs.Demands as Roll
@@ -92,8 +92,16 @@ module _ (x : Listing) (before : List ℕ) (at : ℕ) where
           λ p. goes-on (reportsOf y) (fastestOf y) rows (fileRules roll) (planRules y) number place′ blocks rows′ (record { accepted = b .accepted }) (subst (λ (z : Input). PlanOutcome z number place′ blocks rows′) (sym list) p),
         )
 
+-- A roll reads back as one list only: no two lists are written alike.
+pub no-two-lists-are-written-alike : (s : List ℕ) (x y : Listing) → ReadsBack s x → ReadsBack s y → x ≡ y
+no-two-lists-are-written-alike s x y a b = sym (a .list-is) ∙ b .list-is
+
 -- ---- What was read writes back
--- A roll without preface that the reader accepts: packing what was read gives its bytes again.
+-- For every string of bytes that the reader accepts, packing what was read gives its bytes again, from the first record on;
+pub what-was-read-packs-again-behind-its-preface : (s : List ℕ) → ByteString s → Accepted (fileRules s) → rollBytes (shown s) ≡ drop (recordsAt s) s
+what-was-read-packs-again-behind-its-preface s bytes a = Back.writes-back-behind s bytes (record { accepted = a })
+
+-- without a preface, all of them.
 pub what-was-read-packs-again : (s : List ℕ) → ByteString s → Accepted (fileRules s) → length s ≡ backOf s → rollBytes (shown s) ≡ s
 what-was-read-packs-again s bytes a e = Back.writes-back s bytes (record { accepted = a }) e
 
