@@ -51,6 +51,10 @@ back t zero out = rw zero-add (drop-append-seam t (drop (length t) out))
 back t (suc at) [] = rw (drop-nil, append-nil) (drop-of-length-le t {i = suc at + length t} (omega arith))
 back t (suc at) (x ∷ xs) = rw suc-add (back t at xs)
 
+-- the buffer up to the place behind the text, once it is put
+pub put-front : {before : List ℕ} {at : ℕ} {text : List ℕ} {r : ℕ} {after : List ℕ} → Puts before at text r after → take r after ≡ take at before ++ text
+put-front {before} {at} {text} p = ap₂ take (p .behind) (p .written) ∙ front text at before
+
 pub puts-then : {out : List ℕ} {at : ℕ} {t u : List ℕ} {r s : ℕ} {mid after : List ℕ} → Puts out at t r mid → Puts mid r u s after → Puts out at (t ++ u) s after
 puts-then {out} {at} {t} {u} {mid = mid} p q = record {
   behind = rw (q .behind, p .behind, length-append t u) (add-assoc at (length t) (length u));
@@ -97,7 +101,3 @@ module _ {before : List ℕ} {at : ℕ} {text : List ℕ} {r : ℕ} {after : Lis
 
   pub put-behind : (i : ℕ) → at + length text ≤ i → getD after i 0 ≡ getD before i 0
   put-behind i h = ap (λ (l : List ℕ). getD l i 0) pasted ∙ paste-behind before at text (length text) room (omega arith) i h
-
-  -- the buffer up to the place behind the text
-  pub put-front : take r after ≡ take at before ++ text
-  put-front = ap₂ take (p .behind) (p .written) ∙ front text at before

@@ -2,13 +2,12 @@
 -- (specs/Program.antt), which is proved of the running code for every input. s is the program's input; rows and out are buffers as long as the program's; r, after and text are
 -- what `roll_text` returns and what the two buffers then hold. The program writes the first r bytes of text, and nothing else.
 -- Nothing is assumed.
-use Prim.Native.Nat.{ℕ, _+_, _*_, _≤_}
-use mathlib.Core.Path.{_≡_, sym, _∙_, ap, ap₂, subst}
+use Prim.Native.Nat.{ℕ, _*_, _≤_}
+use mathlib.Core.Path.{_≡_, sym, _∙_, ap, subst}
 use mathlib.Core.List.{List, [], _∷_}
 use mathlib.Core.Logic.{_⊎_, inl, inr, ⊎-elim}
 use native.Mathlib.Omega.{arith}
-use lib.ListN.{length, take, drop}
-use lib.Seq.{take-append-seam}
+use lib.ListN.{length, take}
 use Rattle.answers.specs.Numbers.{width}
 use Rattle.trials.specs.Rules.{Accepted}
 use Rattle.trials.proofs.Numbers.{Never, never-none, never-other}
@@ -20,17 +19,11 @@ use Rattle.planner.specs.Outcome.{planIn, RefusedBy}
 use Rattle.planner.proofs.Outcomes.{by-either}
 use Rattle.roll.specs.Format.{inputOf, rollRules, RollOutcome}
 use Rattle.roll.proofs.Demands as Of
-use Rattle.lists.specs.Puts.{Puts}
+use Rattle.lists.proofs.Putting.{put-front}
 use Rattle.text.specs.Text.{rowLines, planText, textRoom}
 use Rattle.text.proofs.FirstLine.{one-first-line}
 use Rattle.rolltext.specs.Program.{longRule, ProgramOutcome, Says, Begins}
 use Rattle.rolltext.proofs.Buffers.{said-in-full}
-
--- text put at the front of a buffer is what stands there
-put-front : {before text after : List ℕ} {r : ℕ} → Puts before 0 text r after → take r after ≡ text
-put-front {before} {text} {after} {r} p =
-    let e : r ≡ length text = omega (arith, p .behind) in
-    ap₂ (λ (k : ℕ) (l : List ℕ). take k l) e (p .written) ∙ take-append-seam text (drop (0 + length text) before)
 
 module _ (s rows out : List ℕ) (r : ℕ) (after text : List ℕ) (says : Says s rows out r after text) (rows-long : width * 1024 ≤ length rows) (out-long : textRoom 1024 ≤ length out) where
   -- The list in the input.

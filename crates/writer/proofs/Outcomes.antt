@@ -77,7 +77,7 @@ module _ (x : Listing) (before : List ℕ) (at : ℕ) where
         count-fits = omega (arith, l .few);
         p-fits = omega (arith, l .p-most);
         q-fits = omega (arith, l .q-most);
-      }) w (omega (arith, l .room, roll-long x))
+      }) w
 
   -- what the buffer holds once the roll is put
   pub all-put : (bytes : ℕ) × (after : List ℕ) × Puts before at (rollBytes x) (at + bytes) after

@@ -129,5 +129,5 @@ module _ (x : Listing) (p : Packable x) (preface : List ℕ) where
 
 -- ---- in a buffer
 -- A roll that is put into a buffer reads back from the buffer up to the roll's end: what stands before the place is the preface.
-pub written-reads-back : (x : Listing) {before after : List ℕ} {at to : ℕ} → Packable x → Puts before at (rollBytes x) to after → at + length (rollBytes x) ≤ length before → ReadsBack (take to after) x
-written-reads-back x {before} {after} {at} {to} p w h = subst (λ (s : List ℕ). ReadsBack s x) (sym (put-front w h)) (reads-back x p (take at before))
+pub written-reads-back : (x : Listing) {before after : List ℕ} {at to : ℕ} → Packable x → Puts before at (rollBytes x) to after → ReadsBack (take to after) x
+written-reads-back x {before} {at = at} p w = subst (λ (s : List ℕ). ReadsBack s x) (sym (put-front w)) (reads-back x p (take at before))
