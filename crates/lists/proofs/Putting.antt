@@ -61,6 +61,10 @@ puts-then {out} {at} {t} {u} {mid = mid} p q = record {
   written = rw (q .written, p .behind, ← drop-drop (length u) (at + length t) mid, p .written, front t at out, back t at out, drop-drop) (simp (append-assoc, length-append, add-assoc));
 }
 
+-- the same, with the place by an equation
+pub puts-next : {out : List ℕ} {at : ℕ} {t u : List ℕ} {r p s : ℕ} {mid after : List ℕ} → p ≡ r → Puts out at t r mid → Puts mid p u s after → Puts out at (t ++ u) s after
+puts-next e a b = puts-then (puts-to (sym e) a) b
+
 -- ---- text put by turns
 -- After k turns the text for k stands in the buffer, and no turn took more than its room.
 pub record Turns (before : List ℕ) (at : ℕ) (text : ℕ → List ℕ) (room k r : ℕ) (after : List ℕ) : Type 0 where

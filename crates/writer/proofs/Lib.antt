@@ -1,5 +1,6 @@
 pub mod LittleEndian
 pub mod Records
+pub mod Laying
 pub mod ReadingBack
 pub mod WritingBack
 pub mod Outcomes

@@ -1,14 +1,12 @@
 -- Records one behind the other: how long they are, and a roll with them; and that the numbers in them fit their bytes.
 -- Assumes nothing.
-use Prim.Native.Nat.{ℕ, zero, suc, _+_, _*_, _^_, _≤_, _<_}
+use Prim.Native.Nat.{ℕ, zero, suc, _+_, _*_, _^_, _<_}
 use mathlib.Core.Path.{_≡_, refl, subst}
 use mathlib.Core.List.{List, _++_}
 use native.Mathlib.Omega.{arith}
 use Rattle.fraction.proofs.Scale.{cases}
 use lib.ListN.{length, getD, length-append}
-use Rattle.lists.specs.Puts.{Puts}
 use Rattle.rules.specs.Leaves.{Even}
-use Rattle.lists.proofs.Putting.{Turns}
 use Rattle.writer.specs.Bytes.{Listing, recordBytes, recordsUpTo, recordsBytes, trailerBytes, trailerFor, rollLong, rollBytes}
 use Rattle.writer.specs.Inside.{RecordFits, RecordsFit}
 
@@ -39,14 +37,6 @@ fits-more {xs} {ys} {ws} {n} f r = record {
       cases i n (f .each i)
       (λ g. let e : n ≡ i = omega (arith, h, g) in subst (λ (k : ℕ). RecordFits (getD xs k 0) (getD ys k 0) (getD ws k 0)) e r);
 }
-
--- ---- all of them, once the loop has passed the last
-pub all-records :
-    {xs ys ws before after : List ℕ} {i : ℕ} → length xs ≤ i → (i ≤ length xs) × Turns before 0 (recordsUpTo xs ys ws) 12 i (12 * i) after × RecordsFit xs ys ws i →
-    Puts before 0 (recordsUpTo xs ys ws (length xs)) (12 * length xs) after × RecordsFit xs ys ws (length xs)
-all-records {xs} {ys} {ws} {before} {after} {i} h inv =
-    let e : i ≡ length xs = omega (arith, h, inv .0) in
-    subst (λ (n : ℕ). Puts before 0 (recordsUpTo xs ys ws n) (12 * n) after × RecordsFit xs ys ws n) e (inv .1 .put, inv .2)
 
 -- ---- what a roll can carry
 -- A list that a roll can carry: three lists of one length, and each number fits its bytes.

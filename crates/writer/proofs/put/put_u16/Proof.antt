@@ -2,7 +2,7 @@
 -- Assumes nothing.
 use native.Mathlib.Omega.{arith}
 use borrow.Author.Needs.{needs}
-use Rattle.lists.proofs.Putting.{puts-to, puts-then}
+use Rattle.writer.proofs.Laying.{two-put}
 use Rattle.writer.proofs.put.put_u16.Statement.{statement}
 use Rattle.writer.proofs.put.put_u16.Tie as tie
 
@@ -14,4 +14,4 @@ put-u16-spec =
     (λ c. search needs)
     (λ c κs. search needs)
     (λ c. search needs)
-    (λ c. puts-to (omega arith) (puts-then (c .before .before .before .before .before .before .put-u8 .ensures) (c .before .before .put-u82 .ensures))))
+    (λ c. two-put _ _ _ (omega arith) (omega arith) (omega arith) (omega arith) (c .before .before .before .before .before .before .put-u8 .ensures) (c .before .before .put-u82 .ensures)))

@@ -2,7 +2,7 @@
 -- Assumes nothing.
 use native.Mathlib.Omega.{arith}
 use borrow.Author.Needs.{needs}
-use Rattle.lists.proofs.Putting.{puts-to, puts-then}
+use Rattle.writer.proofs.Laying.{four-put}
 use Rattle.writer.proofs.put.put_u32.Statement.{statement}
 use Rattle.writer.proofs.put.put_u32.Tie as tie
 
@@ -14,4 +14,4 @@ put-u32-spec =
     (λ c. search needs)
     (λ c κs. search needs)
     (λ c. search needs)
-    (λ c. (puts-to (omega arith) (puts-then (c .before .before .before .before .before .before .put-u16 .ensures) (c .before .before .put-u162 .ensures)), search needs)))
+    (λ c. (four-put _ _ _ (omega arith) (omega arith) (omega arith) (omega arith) (c .before .before .before .before .before .before .put-u16 .ensures) (c .before .before .put-u162 .ensures), search needs)))
