@@ -1,8 +1,8 @@
 -- Bytes, numbers, a record and a trailer put one behind the other. Each number and each place comes with an equation, so that a wrong one is refused by itself and named.
 -- Assumes nothing.
-use Prim.Native.Nat.{ℕ, _+_, _*_, _/_, _%_, _≤_}
+use Prim.Native.Nat.{ℕ, _+_, _*_, _≤_}
 use mathlib.Core.Path.{_≡_, refl, _∙_, ap, ap₂, subst}
-use mathlib.Core.List.{List, [], _∷_, _++_}
+use mathlib.Core.List.{List, _++_}
 use native.Mathlib.Omega.{arith}
 use lib.ListN.{length, getD}
 use Rattle.lists.specs.Puts.{Puts}
@@ -13,12 +13,11 @@ use Rattle.writer.specs.Bytes.{le16, le32, recordBytes, recordsUpTo, rol
 use Rattle.writer.specs.Inside.{RecordFits, RecordsFit}
 use Rattle.writer.proofs.Records.{fits-more}
 
--- ---- two bytes, and four
-pub two-put : {out mid after : List ℕ} {at r p s : ℕ} (n low high : ℕ) → low ≡ n % 256 → high ≡ n / 256 % 256 → p ≡ r → s ≡ at + 2 → Puts out at (low ∷ []) r mid → Puts mid p (high ∷ []) s after → Puts out at (le16 n) (at + 2) after
-two-put n low high e f there end a b = puts-to end (puts-as (ap₂ (λ (x y : ℕ). x ∷ y ∷ []) e f) (puts-next there a b))
-
-pub four-put : {out mid after : List ℕ} {at r p s : ℕ} (n low high : ℕ) → low ≡ n % 65536 → high ≡ n / 65536 → p ≡ r → s ≡ at + 4 → Puts out at (le16 low) r mid → Puts mid p (le16 high) s after → Puts out at (le32 n) (at + 4) after
-four-put n low high e f there end a b = puts-to end (puts-as (ap₂ (λ (x y : ℕ). le16 x ++ le16 y) e f) (puts-next there a b))
+-- ---- two halves, one behind the other: bytes of two, and twos of four
+pub halves-put :
+    (half : ℕ → List ℕ) {out mid after : List ℕ} {at r p s : ℕ} (low high low′ high′ end : ℕ) → low ≡ low′ → high ≡ high′ → p ≡ r → s ≡ end →
+    Puts out at (half low) r mid → Puts mid p (half high) s after → Puts out at (half low′ ++ half high′) end after
+halves-put half low high low′ high′ end e f there to a b = puts-to to (puts-as (ap₂ (λ (x y : ℕ). half x ++ half y) e f) (puts-next there a b))
 
 -- ---- one record more
 -- i records are put, and their numbers fit

@@ -1,6 +1,6 @@
 -- `writer::write_record` meets its contract: its three numbers, one behind the other.
 -- Assumes nothing.
-use mathlib.Core.Path.{refl}
+use native.Mathlib.Omega.{arith}
 use borrow.Author.Needs.{needs}
 use Rattle.lists.proofs.Putting.{puts-next}
 use Rattle.writer.proofs.write_record.Statement.{statement}
@@ -25,4 +25,4 @@ write-record-spec =
     let a = first r .put-u32 .ensures in
     let d = second r .put-u322 .ensures in
     let o = r .put-u323 .ensures in
-    (puts-next refl (puts-next refl (a .0) (d .0)) (o .0), record { arrival-fits = a .1; deadline-fits = d .1; operations-fit = o .1 })))
+    (puts-next (omega arith) (puts-next (omega arith) (a .0) (d .0)) (o .0), record { arrival-fits = a .1; deadline-fits = d .1; operations-fit = o .1 })))

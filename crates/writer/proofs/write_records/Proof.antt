@@ -2,6 +2,7 @@
 -- Assumes nothing.
 use Prim.Native.Nat.{_-_}
 use mathlib.Core.Path.{refl}
+use native.Mathlib.Omega.{arith}
 use borrow.Author.Needs.{needs}
 use lib.ListN.{length}
 use Rattle.lists.proofs.Putting.{puts-part, no-turn}
@@ -26,7 +27,7 @@ loop-again : tie.Need-loop-again Inv-loop μ-loop
 loop-again c =
     let w = c .before .before in
     let l = w .before .before .before .before .before .before in
-    record-more _ _ _ _ _ _ refl refl refl refl refl (search needs) (search needs) (l .loop .inv) (puts-part (w .write-record .ensures .0)) (w .write-record .ensures .1)
+    record-more _ _ _ _ _ _ (omega arith) (omega arith) (omega arith) (omega arith) (omega arith) (search needs) (search needs) (l .loop .inv) (puts-part (w .write-record .ensures .0)) (w .write-record .ensures .1)
 
 pub write-records-spec : {M : Type 1} → statement M
 write-records-spec =

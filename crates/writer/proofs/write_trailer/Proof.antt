@@ -1,10 +1,11 @@
 -- `writer::write_trailer` meets its contract: its numbers one behind the other, and the mark.
 -- Assumes nothing.
 use Prim.Native.Nat.{ℕ, _+_}
-use mathlib.Core.Path.{refl, ap}
+use mathlib.Core.Path.{ap}
 use native.Mathlib.Omega.{arith}
 use borrow.Author.Needs.{needs}
 use Rattle.lists.proofs.Putting.{puts, puts-as, puts-to, puts-next}
+use Rattle.roll.specs.Format.{mark}
 use Rattle.writer.proofs.Laying.{same-trailer}
 use Rattle.writer.proofs.write_trailer.Statement.{statement}
 use Rattle.writer.proofs.write_trailer.Tie as tie
@@ -33,9 +34,9 @@ returns c =
     let n = the-count p in
     let r = the-reference n in
     let b = the-back r in
-    let numbers = puts-next refl (puts-next refl (puts-next refl (puts-next refl (b .put-u32 .ensures .0) (r .put-u322 .ensures .0)) (n .put-u16 .ensures)) (p .put-u162 .ensures)) (q .put-u163 .ensures) in
-    let all = puts-next refl numbers (puts (m .copy .ensures .0) (m .copy .ensures .1)) in
-    (puts-as (same-trailer _ _ _ _ _ _ (omega arith) refl refl refl refl) (puts-to (ap (λ (k : ℕ). 14 + k) (m .copy .ensures .0)) all), r .put-u322 .ensures .1)
+    let numbers = puts-next (omega arith) (puts-next (omega arith) (puts-next (omega arith) (puts-next (omega arith) (b .put-u32 .ensures .0) (r .put-u322 .ensures .0)) (n .put-u16 .ensures)) (p .put-u162 .ensures)) (q .put-u163 .ensures) in
+    let all = puts-next {u = mark} {p = 14} (omega arith) numbers (puts (m .copy .ensures .0) (m .copy .ensures .1)) in
+    (puts-as (same-trailer _ _ _ _ _ _ (omega arith) (omega arith) (omega arith) (omega arith) (omega arith)) (puts-to (ap (λ (k : ℕ). 14 + k) (m .copy .ensures .0)) all), r .put-u322 .ensures .1)
 
 pub write-trailer-spec : {M : Type 1} → statement M
 write-trailer-spec =

@@ -1,8 +1,9 @@
 -- `writer::put::put_u16` meets its contract: one byte, and one behind it.
 -- Assumes nothing.
 use native.Mathlib.Omega.{arith}
+use mathlib.Core.List.{[], _∷_}
 use borrow.Author.Needs.{needs}
-use Rattle.writer.proofs.Laying.{two-put}
+use Rattle.writer.proofs.Laying.{halves-put}
 use Rattle.writer.proofs.put.put_u16.Statement.{statement}
 use Rattle.writer.proofs.put.put_u16.Tie as tie
 
@@ -14,4 +15,4 @@ put-u16-spec =
     (λ c. search needs)
     (λ c κs. search needs)
     (λ c. search needs)
-    (λ c. two-put _ _ _ (omega arith) (omega arith) (omega arith) (omega arith) (c .before .before .before .before .before .before .put-u8 .ensures) (c .before .before .put-u82 .ensures)))
+    (λ c. halves-put (λ b. b ∷ []) _ _ _ _ _ (omega arith) (omega arith) (omega arith) (omega arith) (c .before .before .before .before .before .before .put-u8 .ensures) (c .before .before .put-u82 .ensures)))
