@@ -41,6 +41,10 @@ impl Refusal {
     pub const TOO_LONG: u32 = 14;
     // The buffer that a roll is to be written into has too little room behind the place.
     pub const NO_ROOM: u32 = 15;
+    // R or T of a floor is outside 1 to 65,535.
+    pub const BAD_FLOOR: u32 = 16;
+    // A floor R/T is below P/Q.
+    pub const FLOOR_BELOW: u32 = 17;
 }
 
 // The answer: the block count, or the refusal.

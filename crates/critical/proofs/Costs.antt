@@ -6,15 +6,15 @@ use mathlib.Core.Path.{_≡_, refl, sym, _∙_, ap, ap₂, subst₂}
 use mathlib.Core.List.{List, [], _∷_}
 use native.Mathlib.Omega.{arith}
 use native.Mathlib.Nat.{mul-pos, mul-le-mul-left, mul-sub, mul-add, mul-assoc, mul-zero, one-mul, le-refl, lt-suc-self}
-use Rattle.fraction.specs.Fraction.{Fraction, _≼_, whole, plus}
-use Rattle.fraction.proofs.Scale.{cases, At, at-whole, at-plus, at-less, at-product, at-more, at-le, le-at, Fits, scaled, at-scaled, fits-den, fits-left, fits-right}
+use Rattle.fraction.specs.Fraction.{Fraction, _≼_, whole, plus, over}
+use Rattle.fraction.proofs.Scale.{cases, At, at-whole, at-plus, at-less, at-product, at-more, at-over, at-le, le-at, Fits, scaled, at-scaled, fits-den, fits-left, fits-right}
 use Rattle.fraction.proofs.Order.{≼-refl, plus-≼}
 use Rattle.critical.specs.Reports.{Reports, Paces, Keeps}
 use Rattle.critical.specs.Rows.{sum, CriticalPlan}
-use Rattle.critical.specs.Cost.{total, Piece, Cost, Flatter, fallen, bill, NoHigher}
-use Rattle.critical.proofs.Numbers.{Joints, InTime, ours, sum-≤, term-≤-sum, strong}
-use Rattle.critical.proofs.Scaled.{AtAll, arrivals, deadlines, at-total, joints, in-time}
-use Rattle.critical.proofs.Least.{common, common-pos, at-ours, at-rival}
+use Rattle.critical.specs.Cost.{total, sumAt, Piece, Cost, Flatter, fallen, bill, NoHigher}
+use Rattle.critical.proofs.Numbers.{ours, term-≤-sum}
+use Rattle.critical.proofs.Scaled.{AtAll, at-total}
+use Rattle.critical.proofs.Least.{common, common-pos, at-ours, at-rival, least-sums}
 
 -- ---- sums
 sum-≡ : (f g : ℕ → ℕ) (n : ℕ) → ((i : ℕ) → i < n → f i ≡ g i) → sum f n ≡ sum g n
@@ -230,9 +230,15 @@ module _ (ℓ : Reports) (T U : Paces) (c : Cost) where
       At (N * M) (total ℓ (λ i. fallen (whole zero) (c .pieces) (c .rest) (R i)) n) (weigh n (ℓ .operations) v v (drop M N (c .rest) zero (c .pieces)) v)
   at-off av = at-total ℓ (mul-pos posN posM) (λ i h. at-fallen M N (c .rest) posM posN (whole zero) _ zero _ (c .pieces) fit (rw mul-zero at (at-whole M zero)) (av i h)) n (le-refl n)
 
-  pub least-cost : (fastest : Fraction) → Flatter (c .pieces) (c .rest) → CriticalPlan ℓ fastest T → Keeps ℓ U → NoHigher (bill ℓ c T) (bill ℓ c U)
-  least-cost fastest flat crit keeps =
+  at-sums : {R : Paces} {v : ℕ → ℕ} → AtAll M R n v → (C : ℕ) → At M (sumAt ℓ (over C M) R) (sum (ours (ℓ .operations) v C) n)
+  at-sums av C = at-total ℓ posM (λ i h. at-less posM (at-over M C M C posM refl) (av i h)) n (le-refl n)
+
+  -- a plan whose sum is at no threshold greater than the rival's costs no more
+  pub sums-cost : Flatter (c .pieces) (c .rest) → ((x : Fraction) → sumAt ℓ x T ≼ sumAt ℓ x U) → NoHigher (bill ℓ c T) (bill ℓ c U)
+  sums-cost flat least =
       plus-≼ (≼-refl (total ℓ (λ i. c .top) n))
       (at-le (at-off aU) (at-off aT) (mul-pos posN posM)
-      (falls-further M N (c .rest) n (ℓ .operations) t u
-      (λ C. omega (arith, strong (arrivals ℓ M) (deadlines ℓ M) (ℓ .operations) t u C n (joints ℓ posM aT fastest crit) (in-time ℓ posM aU keeps))) (c .pieces) flat fit))
+      (falls-further M N (c .rest) n (ℓ .operations) t u (λ C. le-at (at-sums aT C) (at-sums aU C) (least (over C M))) (c .pieces) flat fit))
+
+  pub least-cost : (fastest : Fraction) → Flatter (c .pieces) (c .rest) → CriticalPlan ℓ fastest T → Keeps ℓ U → NoHigher (bill ℓ c T) (bill ℓ c U)
+  least-cost fastest flat crit keeps = sums-cost flat (λ x. least-sums ℓ T U x fastest crit keeps)

@@ -48,6 +48,13 @@ pub least-cost :
     NoHigher (bill ℓ c ours) (bill ℓ c rival)
 least-cost ℓ fastest ours rival c = Costs.least-cost ℓ ours rival c fastest
 
+-- It is the sums that decide: a plan whose sum is at no threshold greater than a rival's costs no more than it, by every such cost.
+pub cost-by-sums :
+    (ℓ : Reports) (plan rival : Paces) (c : Cost) →
+    Flatter (c .pieces) (c .rest) → ((x : Fraction) → sumAt ℓ x plan ≼ sumAt ℓ x rival) →
+    NoHigher (bill ℓ c plan) (bill ℓ c rival)
+cost-by-sums = Costs.sums-cost
+
 -- ---- There is at most one
 
 -- Two critical plans of a list have equal paces for every report, whatever their fastest paces.

@@ -5,8 +5,8 @@ use Prim.Native.Nat.{ℕ, _+_, _*_, _≤_, _<_, max}
 use mathlib.Core.Path.{_≡_, sym, ap, subst}
 use native.Mathlib.Omega.{arith}
 use native.Mathlib.Nat.{mul-pos, mul-le-mul-left, mul-le-mul-right, le-max-left, le-max-right, le-of-lt}
-use Rattle.fraction.specs.Fraction.{Fraction, _≼_, _≺_, _≈_, whole, plus, times, later, over}
-use Rattle.fraction.proofs.Scale.{cases, max-high, max-low, At, at-plus, at-le, at-lt, le-at, lt-at, at-later}
+use Rattle.fraction.specs.Fraction.{Fraction, _≼_, _≺_, _≈_, whole, plus, times, later, sooner, less, over}
+use Rattle.fraction.proofs.Scale.{cases, max-high, max-low, At, at-plus, at-times, at-le, at-lt, at-eq, le-at, lt-at, at-later, at-sooner, at-less}
 
 -- ---- one and two fractions
 pub ≼-refl : (f : Fraction) → f ≼ f
@@ -189,3 +189,48 @@ over-≺ m d n e p q h = omega (arith, h, ap (_*_ m) (max-high q), ap (_*_ n) (m
 pub over-≽ : (m d n e : ℕ) → 0 < d → 0 < e → n * d ≤ m * e → over n e ≼ over m d
 unfolding over
 over-≽ m d n e p q h = omega (arith, h, ap (_*_ m) (max-high q), ap (_*_ n) (max-high p))
+
+-- ---- the sooner of two
+-- it is no later than either, and what is no later than both is no later than it
+pub sooner-≼-left : (f g : Fraction) → sooner f g ≼ f
+sooner-≼-left f g =
+    let t = together f g f f in
+    at-le (at-sooner (t .pos) (t .atf) (t .atg)) (t .atf) (t .pos) (omega arith)
+
+pub sooner-≼-right : (f g : Fraction) → sooner f g ≼ g
+sooner-≼-right f g =
+    let t = together f g f f in
+    at-le (at-sooner (t .pos) (t .atf) (t .atg)) (t .atg) (t .pos) (omega arith)
+
+pub ≼-sooner : {f g h : Fraction} → h ≼ f → h ≼ g → h ≼ sooner f g
+≼-sooner {f} {g} {h} p q =
+    let t = together f g h h in
+    at-le (t .ath) (at-sooner (t .pos) (t .atf) (t .atg)) (t .pos) (omega (arith, le-at (t .ath) (t .atf) p, le-at (t .ath) (t .atg) q))
+
+-- the sooner of two positive fractions is positive
+pub sooner-positive : (f g : Fraction) → 0 < f .num → 0 < g .num → 0 < sooner f g .num
+unfolding sooner
+sooner-positive f g p q = omega (arith, mul-pos p (g .proper), mul-pos q (f .proper))
+
+-- ---- differences
+-- capped at r or above, p leaves as much of what is at most r
+pub less-sooner : {f r : Fraction} (p : Fraction) → f ≼ r → less f (sooner p r) ≈ less f p
+less-sooner {f} {r} p h =
+    let t = together f r p p in
+    at-eq (t .pos) (at-less (t .pos) (t .atf) (at-sooner (t .pos) (t .ath) (t .atg))) (at-less (t .pos) (t .atf) (t .ath))
+    (omega (arith, le-at (t .atf) (t .atg) h))
+
+-- from p up to f by way of r
+pub less-by-way : {f r p : Fraction} → p ≼ r → r ≼ f → less f p ≈ plus (less r p) (less f r)
+less-by-way {f} {r} {p} h k =
+    let t = together f r p p in
+    at-eq (t .pos) (at-less (t .pos) (t .atf) (t .ath)) (at-plus (at-less (t .pos) (t .atg) (t .ath)) (at-less (t .pos) (t .atf) (t .atg)))
+    (omega (arith, le-at (t .ath) (t .atg) h, le-at (t .atg) (t .atf) k))
+
+-- ---- two sums side by side
+-- one term more on each is one term more on their sum
+pub plus-side : (n : ℕ) (f g h k : Fraction) → plus (plus f g) (times n (plus h k)) ≈ plus (plus f (times n h)) (plus g (times n k))
+plus-side n f g h k =
+    let t = together f g h k in
+    at-eq (t .pos) (at-plus (at-plus (t .atf) (t .atg)) (at-times n (at-plus (t .ath) (t .atk))))
+    (at-plus (at-plus (t .atf) (at-times n (t .ath))) (at-plus (t .atg) (at-times n (t .atk)))) (omega arith)

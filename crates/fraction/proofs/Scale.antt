@@ -1,13 +1,13 @@
 -- Fractions at a common scale. A fraction f is X at scale M when f = X / M; sums, maxima, differences, multiples and the order of fractions are
 -- then those of their X's, so a proof about fractions is one about whole numbers. Any finite run of fractions has a common scale.
 -- Assumes nothing.
-use Prim.Native.Nat.{ℕ, zero, suc, _+_, _*_, _-_, _/_, _∣_, _≤_, _<_, max, zero-le, suc-le-suc}
+use Prim.Native.Nat.{ℕ, zero, suc, _+_, _*_, _-_, _/_, _∣_, _≤_, _<_, max, min, zero-le, suc-le-suc}
 use mathlib.Core.Path.{_≡_, refl, sym, _∙_, ap}
 use mathlib.Core.Logic.{⊎-elim}
 use native.Mathlib.Omega.{arith}
 use native.Mathlib.Decide.{decLt}
 use native.Mathlib.Nat.{mul-pos, mul-sub, mul-le-mul-left, mul-lt-mul-of-pos-left, le-of-mul-le-mul-left, lt-of-mul-lt-mul-left, le-antisymm, eq-or-lt-of-le, le-of-suc-le-suc, not-suc-le-zero, div-mul-cancel, dvd-mul-left, dvd-mul-right-of-dvd, dvd-mul-left-of-dvd}
-use Rattle.fraction.specs.Fraction.{Fraction, _≼_, _≺_, _≈_, whole, plus, times, later, less, over, product}
+use Rattle.fraction.specs.Fraction.{Fraction, _≼_, _≺_, _≈_, whole, plus, times, later, sooner, less, over, product}
 
 -- two numbers, by which of them is less
 pub cases {ℓ} : {A : Type ℓ} (a b : ℕ) → (a < b → A) → (b ≤ a → A) → A
@@ -19,6 +19,13 @@ max-high h = omega arith
 
 pub max-low : {a b : ℕ} → b ≤ a → max a b ≡ a
 max-low h = omega arith
+
+-- the lesser of two numbers, where it is known which
+pub min-low : {a b : ℕ} → a ≤ b → min a b ≡ a
+min-low h = omega arith
+
+pub min-high : {a b : ℕ} → b ≤ a → min a b ≡ b
+min-high h = omega arith
 
 -- f is X at scale M
 pub record At (M : ℕ) (f : Fraction) (X : ℕ) : Type 0 where
@@ -97,6 +104,13 @@ module _ {M : ℕ} {f g : Fraction} {X Y : ℕ} (pos : 0 < M) (p : At M f X) (q 
       cases X Y
       (λ h. let l : X ≤ Y = omega arith in omega (arith, ap (_*_ (f .den)) (q .at), ap (_*_ M) (max-high (at-le p q pos l .cross)), ap (_*_ (f .den * g .den)) (max-high l)))
       (λ h. omega (arith, ap (_*_ (g .den)) (p .at), ap (_*_ M) (max-low (at-le q p pos h .cross)), ap (_*_ (f .den * g .den)) (max-low h)))
+
+  pub at-sooner : At M (sooner f g) (min X Y)
+  unfolding sooner
+  at-sooner =
+      cases X Y
+      (λ h. let l : X ≤ Y = omega arith in omega (arith, ap (_*_ (g .den)) (p .at), ap (_*_ M) (min-low (at-le p q pos l .cross)), ap (_*_ (f .den * g .den)) (min-low l)))
+      (λ h. omega (arith, ap (_*_ (f .den)) (q .at), ap (_*_ M) (min-high (at-le q p pos h .cross)), ap (_*_ (f .den * g .den)) (min-high h)))
 
   pub at-less : At M (less f g) (X - Y)
   unfolding less

@@ -1,6 +1,6 @@
 -- Exact fractions: what a pace, a finish, a threshold and a sum are. Nothing is rounded, and no common scale appears.
 -- Assumes nothing.
-use Prim.Native.Nat.{ℕ, _+_, _*_, _-_, _≤_, _<_, max, zero-le, suc-le-suc}
+use Prim.Native.Nat.{ℕ, _+_, _*_, _-_, _≤_, _<_, max, min, zero-le, suc-le-suc}
 use mathlib.Core.Path.{_≡_}
 use native.Mathlib.Nat.{mul-pos, le-max-left}
 
@@ -42,6 +42,10 @@ times n f = record { num = n * f .num; den = f .den; proper = f .proper }
 -- The greater of two fractions: of two times the later, of two paces the slower.
 unfoldable pub later : Fraction → Fraction → Fraction
 later f g = record { num = max (f .num * g .den) (g .num * f .den); den = f .den * g .den; proper = mul-pos (f .proper) (g .proper) }
+
+-- The lesser of two fractions: of two times the sooner, of two paces the faster.
+unfoldable pub sooner : Fraction → Fraction → Fraction
+sooner f g = record { num = min (f .num * g .den) (g .num * f .den); den = f .den * g .den; proper = mul-pos (f .proper) (g .proper) }
 
 -- What f has more than g; nil where it has not.
 unfoldable pub less : Fraction → Fraction → Fraction

@@ -1,5 +1,6 @@
 -- The demands, as theorems about `plan`: for the inspector. Each follows from the promise of `plan` alone, `PlanOutcome` (specs/Outcome.antt), which is proved of
--- the running code for every input. x is what `plan` is handed; number, place, blocks and after are what it returns and what the row buffer then holds.
+-- the running code for every input. x is what `plan` is handed; number, place, blocks and after are what it returns and what the row buffer then holds. Each reads with a floor and without: `runningIn x blocks after` are the paces
+-- that run, each the faster of its row's pace and R/T; without a floor they are the rows' paces, every pace is no slower than the floor, and thresholds go up without end.
 -- Nothing is assumed. That the code ends, and that nothing it does is undefined, is not stated here: the language's check of every function shows it (a measure falls at each turn of a loop; every index, slice, sum and product
 -- is shown to be in range). In the verdict of that check `logic-built=trusted` says that the kit's own logic was taken as the kit's makers checked it, and `libraries-built=trusted` that each crate below was taken as its own check
 -- left it: `rt ci` makes those checks first, in the same run from nothing, for all but the kit's libraries.
@@ -9,17 +10,19 @@ use mathlib.Core.List.{List, [], _∷_}
 use mathlib.Core.Logic.{_↔_, inl, inr}
 use native.Mathlib.Omega.{arith}
 use Rattle.trials.specs.Rules.{Refused}
-use Rattle.trials.proofs.Passing.{Passed, Quiet, finding}
+use Rattle.trials.proofs.Passing.{Passed, Quiet, finding, first-part}
 use Rattle.trials.proofs.Numbers.{refused-behind, by-another-rule, others}
 use Rattle.fraction.specs.Fraction.{Fraction, _≼_, _≺_, whole}
 use Rattle.critical.specs.Reports.{Reports, Paces, Positive, finish, Keeps, Allowed, Plannable, FirstWithout, steady}
 use Rattle.critical.specs.Rows.{Row, Critical}
 use Rattle.critical.specs.Cost.{sumAt, Cost, Flatter, bill, NoHigher}
-use Rattle.critical.proofs.Theorems.{least-sum, least-cost, one-list-of-rows, first-failure, not-both}
-use Rattle.rules.specs.Offsets.{Input, reportsOf, fastestOf}
-use Rattle.rules.specs.Rules.{paceRule, earlierRules, planRule, planRules}
-use Rattle.planner.specs.Outcome.{rowAt, planIn, WellFormed, Outcome, PlanOutcome}
-use Rattle.rules.proofs.Leaving.{good-pace}
+use Rattle.critical.proofs.Theorems.{one-list-of-rows, first-failure, not-both}
+use Rattle.slowest.specs.Slowest.{UpTo, NoSlower, PlannableWithin}
+use Rattle.slowest.proofs.Theorems.{runs-within, runs-allowed, plan-within, runs-least-sum, runs-least-sum-above, runs-least-cost}
+use Rattle.rules.specs.Offsets.{Input, reportsOf, fastestOf, slowestOf}
+use Rattle.rules.specs.Rules.{paceRule, belowRule, earlierRules, planRule, planRules}
+use Rattle.planner.specs.Outcome.{rowAt, planIn, runningIn, WellFormed, Outcome, PlanOutcome}
+use Rattle.rules.proofs.Leaving.{good-pace, good-floor}
 use Rattle.rules.proofs.Table.{works}
 use Rattle.planner.proofs.Outcomes.{positive}
 use Rattle.planner.proofs.OneResult as One
@@ -66,6 +69,19 @@ unfolding Outcome
 and-no-others x place blocks after fastest m rows o c =
     one-list-of-rows (reportsOf x) (fastestOf x) fastest blocks m (rowAt after) rows (works x (record { accepted = o .0 })) (o .2 .rows) c
 
+-- where rule 4 is silent, P/Q is positive
+pace-positive : (x : Input) → Passed (earlierRules x) → Positive (fastestOf x)
+pace-positive x p = let pace : Quiet (paceRule (x .terms)) = search finding depth 40 in positive (reportsOf x) (x .terms) (good-pace pace) (x .buffer)
+
+-- where rule 17 is, R/T is not below it
+floor-above : (x : Input) → Passed (earlierRules x) → UpTo (slowestOf x) (fastestOf x)
+floor-above x p = let below : Quiet (belowRule (x .floor) (x .terms)) = search finding depth 40 in good-floor (x .floor) (x .terms) below
+
+-- none of the rules before the last refuses an accepted list
+earlier : (x : Input) (place blocks : ℕ) (after : List ℕ) → PlanOutcome x 0 place blocks after → Passed (earlierRules x)
+unfolding Outcome
+earlier x place blocks after o = first-part (earlierRules x) (planRule (reportsOf x) (fastestOf x) ∷ []) (record { accepted = o .0 })
+
 -- the last rule is rule 9
 refused-by-nine : (ℓ : Reports) (f : Fraction) (number place : ℕ) → Refused (planRule ℓ f ∷ []) number place → (number ≡ 9) × FirstWithout ℓ f place
 unfolding Refused
@@ -84,6 +100,14 @@ a-well-formed-list-is-refused-exactly-when-there-is-no-plan x (suc k) place bloc
     let nine = refused-by-nine (reportsOf x) (fastestOf x) (suc k) place (refused-behind (earlierRules x) (planRule (reportsOf x) (fastestOf x) ∷ []) (suc k) place w (o .0)) in
     (λ h plan. not-both (reportsOf x) (fastestOf x) place plan (nine .1), λ none. omega arith)
 
+-- With a floor that is the same question: there is a plan exactly when there is one that is no slower than R/T.
+pub and-there-is-one-exactly-when-there-is-one-no-slower-than-the-floor :
+    (x : Input) → WellFormed x →
+    Plannable (reportsOf x) (fastestOf x) ↔ PlannableWithin (reportsOf x) (fastestOf x) (slowestOf x)
+and-there-is-one-exactly-when-there-is-one-no-slower-than-the-floor x w =
+    let p : Passed (earlierRules x) = record { accepted = w } in
+    plan-within (reportsOf x) (fastestOf x) (slowestOf x) (floor-above x p) (pace-positive x p)
+
 -- The refusal is then number 9, and its place the least i such that reports 0 to i by themselves have no allowed plan.
 pub and-at-the-first-report-without-one :
     (x : Input) (number place blocks : ℕ) (after : List ℕ) →
@@ -96,46 +120,57 @@ and-at-the-first-report-without-one x (suc k) place blocks after w h o =
 
 -- ---- The inspector's three questions
 
--- where rule 4 is silent, P/Q is positive
-pace-positive : (x : Input) → Passed (earlierRules x) → Positive (fastestOf x)
-pace-positive x p = let pace : Quiet (paceRule (x .terms)) = search finding depth 40 in positive (reportsOf x) (x .terms) (good-pace pace) (x .buffer)
-
--- "Was there a plan that kept every window?" Yes, where the planner gives one: in it every report finishes at or before its deadline, and none runs faster than P/Q.
+-- "Was there a plan that kept every window?" Yes, where the planner gives one: as it runs, every report finishes at or before its deadline, none runs faster than P/Q, and none slower than R/T.
 -- (That it gives one wherever there is one is `a-well-formed-list-is-refused-exactly-when-there-is-no-plan`, above.)
 pub was-there-a-plan :
     (x : Input) (place blocks : ℕ) (after : List ℕ) →
     PlanOutcome x 0 place blocks after →
-    Allowed (reportsOf x) (fastestOf x) (planIn blocks after)
-was-there-a-plan x place blocks after o = an-accepted-list-has-its-blocks x place blocks after o .plan .allowed
+    Allowed (reportsOf x) (fastestOf x) (runningIn x blocks after) × NoSlower (reportsOf x) (slowestOf x) (runningIn x blocks after)
+was-there-a-plan x place blocks after o =
+    let p = earlier x place blocks after o in
+    (runs-allowed (reportsOf x) (fastestOf x) (slowestOf x) (planIn blocks after) (floor-above x p) (pace-positive x p) (an-accepted-list-has-its-blocks x place blocks after o .plan .allowed), runs-within (reportsOf x) (slowestOf x) (planIn blocks after))
 
--- "When a buoy says there is none, how do you know?" Every plan fails that runs no report faster than P/Q; and the reason can be checked by hand: with all reports at the fastest pace, the report
--- named still comes late.
+-- "When a buoy says there is none, how do you know?" Every plan fails that runs no report faster than P/Q, however slow it runs them; and the reason can be checked by hand: with all reports at the fastest pace, which is
+-- not slower than R/T, the report named still comes late.
 pub how-do-you-know-there-is-none :
     (x : Input) (place blocks : ℕ) (after : List ℕ) →
     PlanOutcome x 9 place blocks after →
-    ((T : Paces) → Allowed (reportsOf x) (fastestOf x) T → ⊥) × (whole (reportsOf x .deadline place) ≺ finish (reportsOf x) (steady (fastestOf x)) place)
+    ((T : Paces) → Allowed (reportsOf x) (fastestOf x) T → ⊥)
+    × NoSlower (reportsOf x) (slowestOf x) (steady (fastestOf x)) × (whole (reportsOf x .deadline place) ≺ finish (reportsOf x) (steady (fastestOf x)) place)
 unfolding Outcome
 how-do-you-know-there-is-none x place blocks after o =
     let split = by-another-rule (earlierRules x) (planRule (reportsOf x) (fastestOf x) ∷ []) place (search others depth 40) (o .0) in
-    let nine = refused-by-nine (reportsOf x) (fastestOf x) 9 place (split .1) .1 in
-    (λ T a. not-both (reportsOf x) (fastestOf x) place (T, a) nine, first-failure (reportsOf x) (fastestOf x) place (pace-positive x (split .0)) .0 nine .2)
+    let nine = refused-by-nine (reportsOf x) (fastestOf x) 9 place (split .1) .1 in (
+      λ T a. not-both (reportsOf x) (fastestOf x) place (T, a) nine,
+      record { no-slower = λ i h. floor-above x (split .0) },
+      first-failure (reportsOf x) (fastestOf x) place (pace-positive x (split .0)) .0 nine .2,
+    )
 
--- "When it hurries, did it need to?" Yes, over the whole list: whatever pace c one measures by, no plan that keeps the list has a smaller sum of operations times
--- shortfall, not even one that runs faster than P/Q.
+-- "When it hurries, did it need to?" Yes, over the whole list: whatever pace c up to R/T one measures by, no plan that keeps the list has a smaller sum of operations times shortfall than what runs, not even one that runs faster
+-- than P/Q or slower than R/T.
 pub did-it-need-to-hurry :
     (x : Input) (place blocks : ℕ) (after : List ℕ) →
     PlanOutcome x 0 place blocks after →
-    (rival : Paces) → Keeps (reportsOf x) rival → (c : Fraction) →
-    sumAt (reportsOf x) c (planIn blocks after) ≼ sumAt (reportsOf x) c rival
+    (rival : Paces) → Keeps (reportsOf x) rival → (c : Fraction) → UpTo (slowestOf x) c →
+    sumAt (reportsOf x) c (runningIn x blocks after) ≼ sumAt (reportsOf x) c rival
 did-it-need-to-hurry x place blocks after o rival keeps c =
-    least-sum (reportsOf x) (fastestOf x) (planIn blocks after) rival c (an-accepted-list-has-its-blocks x place blocks after o .plan) keeps
+    runs-least-sum (reportsOf x) (fastestOf x) (slowestOf x) (planIn blocks after) rival c (an-accepted-list-has-its-blocks x place blocks after o .plan) keeps
 
 -- ---- Demand 3. "At every threshold pace the sum of operations times shortfall is least among all plans that keep the list." That is the last theorem.
--- "So no cost that falls in ever flatter straight pieces can be lowered."
+-- Against rivals that are no slower than R/T it holds at the thresholds above R/T too. (For slower ones it need not: `slower-rival-below`, slowest/proofs/Theorems.antt, is a list where it does not.)
+pub and-at-every-threshold-against-rivals-no-slower-than-the-floor :
+    (x : Input) (place blocks : ℕ) (after : List ℕ) →
+    PlanOutcome x 0 place blocks after →
+    (rival : Paces) → Keeps (reportsOf x) rival → NoSlower (reportsOf x) (slowestOf x) rival → (c : Fraction) →
+    sumAt (reportsOf x) c (runningIn x blocks after) ≼ sumAt (reportsOf x) c rival
+and-at-every-threshold-against-rivals-no-slower-than-the-floor x place blocks after o rival keeps within c =
+    runs-least-sum-above (reportsOf x) (fastestOf x) (slowestOf x) (planIn blocks after) rival c (an-accepted-list-has-its-blocks x place blocks after o .plan) keeps within
+
+-- "So no cost that falls in ever flatter straight pieces can be lowered", by no such rival.
 pub no-cost-can-be-lowered :
     (x : Input) (place blocks : ℕ) (after : List ℕ) →
     PlanOutcome x 0 place blocks after →
-    (rival : Paces) → Keeps (reportsOf x) rival → (c : Cost) → Flatter (c .pieces) (c .rest) →
-    NoHigher (bill (reportsOf x) c (planIn blocks after)) (bill (reportsOf x) c rival)
-no-cost-can-be-lowered x place blocks after o rival keeps c flat =
-    least-cost (reportsOf x) (fastestOf x) (planIn blocks after) rival c flat (an-accepted-list-has-its-blocks x place blocks after o .plan) keeps
+    (rival : Paces) → Keeps (reportsOf x) rival → NoSlower (reportsOf x) (slowestOf x) rival → (c : Cost) → Flatter (c .pieces) (c .rest) →
+    NoHigher (bill (reportsOf x) c (runningIn x blocks after)) (bill (reportsOf x) c rival)
+no-cost-can-be-lowered x place blocks after o rival keeps within c flat =
+    runs-least-cost (reportsOf x) (fastestOf x) (slowestOf x) (planIn blocks after) rival c flat (an-accepted-list-has-its-blocks x place blocks after o .plan) keeps within

@@ -25,8 +25,10 @@ use Rattle.critical.proofs.Table as Definitions
 use Rattle.rules.specs.Offsets.{Input, reportsOf, fastestOf}
 use Rattle.rules.specs.Rules.{paceRule, planRule, earlierRules}
 use Rattle.rules.specs.declared.Roll.{Roll}
+use Rattle.rules.specs.declared.Floor.{Floor}
+use Rattle.rules.specs.declared.Floor.the-variants.{Absent, Slowest}
 use Rattle.rules.proofs.Leaving.{good-pace}
-use Rattle.rules.proofs.Table.{decided}
+use Rattle.rules.proofs.Table.{decided, dec-floor, dec-slower}
 use Rattle.planner.specs.Outcome.{rowAt, Written, PlanOutcome}
 use Rattle.planner.proofs.Outcomes.{hands-up, accepts, rejects, positive}
 
@@ -35,12 +37,13 @@ pub data Result : Type 0 where
   planned : List Row → Result
   refused : ℕ → ℕ → Result
 
--- a row of the table: the three lists of readings, reference, P and Q, how many numbers the row buffer has, and the result
+-- a row of the table: the three lists of readings, reference, P and Q, the floor, how many numbers the row buffer has, and the result
 pub record Entry : Type 0 where
   pub arrivals : List ℕ
   pub deadlines : List ℕ
   pub operations : List ℕ
   pub terms : Roll
+  pub floor : Floor
   pub room : ℕ
   pub result : Result
 
@@ -51,6 +54,7 @@ input e = record {
   deadlines = e .deadlines;
   operations = e .operations;
   terms = e .terms;
+  floor = e .floor;
   buffer = replicate (e .room) 7;
 }
 
@@ -92,13 +96,14 @@ unfoldable pub AllGiven : List Entry → Type 0
 AllGiven [] = Unit {0}
 AllGiven (e ∷ es) = Given e × AllGiven es
 
--- a row of the table, with reference, P and Q; the buffer has a row's width for each report and two numbers more
+-- a row of the table, with reference, P and Q, and without a floor; the buffer has a row's width for each report and two numbers more
 abbrev entry : List ℕ → List ℕ → List ℕ → ℕ → ℕ → ℕ → Result → Entry
 entry a d w reference p q r = record {
   arrivals = a;
   deadlines = d;
   operations = w;
   terms = record { reference = reference; p = p; q = q };
+  floor = Absent;
   room = width * length a + 2;
   result = r;
 }
@@ -109,7 +114,11 @@ plain a d w r = entry a d w 0 1 1 r
 
 -- one with another buffer besides
 abbrev within : ℕ → Entry → Entry
-within n e = record { arrivals = e .arrivals; deadlines = e .deadlines; operations = e .operations; terms = e .terms; room = n; result = e .result }
+within n e = record { arrivals = e .arrivals; deadlines = e .deadlines; operations = e .operations; terms = e .terms; floor = e .floor; room = n; result = e .result }
+
+-- one with the floor R/T besides
+abbrev slowest : ℕ → ℕ → Entry → Entry
+slowest r t e = record { arrivals = e .arrivals; deadlines = e .deadlines; operations = e .operations; terms = e .terms; floor = Slowest r t; room = e .room; result = e .result }
 
 -- a result of the definitions' table
 abbrev resultOf : Definitions.Result → Result
@@ -135,6 +144,23 @@ others =
     ∷ within 9 (plain (0 ∷ 0 ∷ []) (2 ∷ 2 ∷ []) (1 ∷ 1 ∷ []) (refused 3 0))
     ∷ entry (0 ∷ []) (2 ∷ []) (1 ∷ []) 0 1 65536 (refused 4 0)
     ∷ plain (0 ∷ 2147483648 ∷ []) (2 ∷ 2 ∷ []) (1 ∷ 1 ∷ []) (refused 6 1)
+    ∷ []
+
+-- Lists with a floor (02, W2): rows as without one, on both sides of 16 and of 17, and where they stand in the order.
+pub floors : List Entry
+floors =
+    slowest 2 1 (plain (0 ∷ []) (10 ∷ []) (4 ∷ []) (planned (block 0 0 0 10 4 ∷ [])))
+    ∷ slowest 65535 1 (plain (0 ∷ []) (10 ∷ []) (4 ∷ []) (planned (block 0 0 0 10 4 ∷ [])))
+    ∷ slowest 2 2 (plain (0 ∷ []) (10 ∷ []) (4 ∷ []) (planned (block 0 0 0 10 4 ∷ [])))
+    ∷ slowest 65534 65535 (plain (0 ∷ []) (10 ∷ []) (4 ∷ []) (refused 17 0))
+    ∷ slowest 0 1 (plain (0 ∷ []) (10 ∷ []) (4 ∷ []) (refused 16 0))
+    ∷ slowest 1 0 (plain (0 ∷ []) (10 ∷ []) (4 ∷ []) (refused 16 0))
+    ∷ slowest 65536 1 (plain (0 ∷ []) (10 ∷ []) (4 ∷ []) (refused 16 0))
+    ∷ slowest 65536 65536 (plain (0 ∷ []) (10 ∷ []) (4 ∷ []) (refused 16 0))
+    ∷ slowest 0 0 (entry (0 ∷ []) (10 ∷ []) (4 ∷ []) 0 0 1 (refused 4 0))
+    ∷ slowest 1 2 (plain (0 ∷ []) (10 ∷ []) (0 ∷ []) (refused 17 0))
+    ∷ slowest 1 1 (plain (0 ∷ []) (10 ∷ []) (0 ∷ []) (refused 5 0))
+    ∷ slowest 2 3 (entry (0 ∷ []) (2 ∷ []) (4 ∷ []) 0 2 3 (refused 9 0))
     ∷ []
 
 -- ---- rows at the front of a buffer
@@ -204,7 +230,7 @@ module _ (x : Input) where
 
 -- the rules before rule 9 are decided by computing, and so is the rest
 test : Entry → Bool
-unfolding meets decided passed-or-given outcome Decided dec-below dec-equal dec-not dec-or dec-falls decides-none decides-overall decides-least least-or-none Falls ℕ-discrete decLt start holder behind sum whole over plus times later
+unfolding meets decided dec-floor dec-slower split cases passed-or-given outcome Decided dec-below dec-equal dec-not dec-or dec-falls decides-none decides-overall decides-least least-or-none Falls ℕ-discrete decLt start holder behind sum whole over plus times later
 test e = meets (input e) (passed-or-given (decided (input e))) (e .result)
 
 -- of a whole table
@@ -228,6 +254,11 @@ starred-given = all-given starred tt
 pub others-given : AllGiven others
 unfolding others every test
 others-given = all-given others tt
+
+-- And those with a floor.
+pub floors-given : AllGiven floors
+unfolding floors every test
+floors-given = all-given floors tt
 
 -- A table holds from any entry on.
 pub given-from : (n : ℕ) (es : List Entry) → AllGiven es → AllGiven (drop n es)

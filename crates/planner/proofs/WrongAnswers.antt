@@ -10,6 +10,7 @@ use Rattle.answers.specs.Numbers.{Proper}
 use Rattle.answers.specs.declared.Answer.the-variants.{Refused}
 use Rattle.critical.proofs.Table as Definitions
 use Rattle.rules.specs.Offsets.{Input}
+use Rattle.rules.specs.declared.Floor.the-variants.{Absent}
 use Rattle.planner.specs.Outcome.{PlanOutcome}
 use Rattle.planner.proofs.OneResult.{one-result}
 use Rattle.planner.proofs.Table.{AllGiven, starred, starred-given, given-from}
@@ -43,6 +44,7 @@ crowded = record {
   deadlines = 4 ∷ 20 ∷ 16 ∷ [];
   operations = 2 ∷ 2 ∷ 2 ∷ [];
   terms = record { reference = 0; p = 1; q = 1 };
+  floor = Absent;
   buffer = replicate 17 7;
 }
 

@@ -7,7 +7,8 @@ use lib.ListN.{length, getD}
 use Rattle.fraction.specs.Fraction.{Fraction}
 use Rattle.critical.specs.Reports.{Reports, Paces}
 use Rattle.critical.specs.Rows.{Row, planOf, Critical}
-use Rattle.rules.specs.Offsets.{Input, reportsOf, fastestOf}
+use Rattle.slowest.specs.Slowest.{floored}
+use Rattle.rules.specs.Offsets.{Input, reportsOf, fastestOf, slowestOf}
 use Rattle.answers.specs.Numbers.{width}
 use Rattle.trials.specs.Rules.{Rule, Refused, Accepted}
 use Rattle.rules.specs.Rules.{earlierRules, planRules}
@@ -47,7 +48,11 @@ PlanOutcome x number place blocks after =
 abbrev pub planIn : ℕ → List ℕ → Paces
 planIn blocks after = planOf blocks (rowAt after)
 
--- A well-formed list with room: none of the rules 1 to 8 is given.
+-- What runs: each report at the faster of its row's pace and the slowest pace, where there is one. Start and finish are those of every plan.
+abbrev pub runningIn : Input → ℕ → List ℕ → Paces
+runningIn x blocks after = floored (slowestOf x) (planIn blocks after)
+
+-- A well-formed list with room: none of the rules before rule 9 is given.
 abbrev pub WellFormed : Input → Type 0
 WellFormed x = Accepted (earlierRules x)
 

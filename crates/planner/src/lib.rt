@@ -1,7 +1,8 @@
-// The planner: rules 1 to 9, the pass at the fastest pace, the search for blocks, and their rows.
+// The planner: rules 1 to 9, 16 and 17, the pass at the fastest pace, the search for blocks, and their rows.
 // Its one entry point is plan. What it is handed, and the refusals and their order, are the crate
 // rules' specs/; what comes back, and what the row buffer then holds, is specs/Outcome.antt.
 use answers::Answer;
+use rules::Floor;
 use rules::Roll;
 use rules::count_rules;
 use trials::Verdict;
@@ -16,16 +17,19 @@ mod settle;
 ghost use Rattle.answers.specs.Numbers.{Proper, numberOf, placeOf, blocksOf};
 ghost use Rattle.planner.specs.Outcome.{PlanOutcome};
 
-// Plans a list: three lists of readings, the terms that they come with (reference, P and Q), and a
-// buffer for rows. What comes back, and what the buffer then holds, is PlanOutcome, for every input.
+// Plans a list: three lists of readings, the terms that they come with (reference, P and Q), the floor
+// that may be absent, and a buffer for rows. What comes back, and what the buffer then holds, is
+// PlanOutcome, for every input. The floor is tried by its rules; the rows are the same with it and
+// without.
 pub fn plan(
     arrivals: &[u32],
     deadlines: &[u32],
     operations: &[u32],
     terms: Roll,
+    floor: Floor,
     rows: &mut [u32],
 ) -> Answer
-    ensures { λ r. ⌜ PlanOutcome (record { arrivals = now (arrivals .entry); deadlines = now (deadlines .entry); operations = now (operations .entry); terms = terms; buffer = now (rows .entry) }) (numberOf r) (placeOf r) (blocksOf r) (now (rows .exit)) ⌝ }
+    ensures { λ r. ⌜ PlanOutcome (record { arrivals = now (arrivals .entry); deadlines = now (deadlines .entry); operations = now (operations .entry); terms = terms; floor = floor; buffer = now (rows .entry) }) (numberOf r) (placeOf r) (blocksOf r) (now (rows .exit)) ⌝ }
     ensures { λ r. ⌜ Proper r ⌝ }
 {
     let tried = count_rules(
@@ -34,6 +38,7 @@ pub fn plan(
         deadlines.len(),
         operations.len(),
         terms,
+        floor,
         rows.len(),
     );
     if let Verdict::Given(refusal) = tried {

@@ -6,6 +6,7 @@ use Prim.Native.Nat.{ℕ, _<_}
 use mathlib.Core.Path.{_≡_}
 use mathlib.Core.List.{List}
 use mathlib.Core.Logic.{_⊎_, _↔_, inl, inr, ⊎-elim}
+use mathlib.Core.Option.{Option}
 use native.Mathlib.Omega.{arith}
 use Rattle.trials.specs.Rules.{Accepted}
 use Rattle.trials.proofs.Single.{not-refused}
@@ -14,9 +15,10 @@ use Rattle.fraction.specs.Fraction.{Fraction, _≼_, _≺_, whole}
 use Rattle.critical.specs.Reports.{Reports, Paces, finish, Keeps, Allowed, Plannable, FirstWithout, steady}
 use Rattle.critical.specs.Rows.{Critical}
 use Rattle.critical.specs.Cost.{sumAt, Cost, Flatter, bill, NoHigher}
-use Rattle.rules.specs.Offsets.{Input, reportsOf, fastestOf}
+use Rattle.slowest.specs.Slowest.{UpTo, NoSlower}
+use Rattle.rules.specs.Offsets.{Input, reportsOf, fastestOf, slowestOf}
 use Rattle.rules.specs.Rules.{planRules}
-use Rattle.planner.specs.Outcome.{rowAt, planIn, WellFormed, RefusedBy, PlanOutcome}
+use Rattle.planner.specs.Outcome.{rowAt, runningIn, WellFormed, RefusedBy, PlanOutcome}
 use Rattle.planner.proofs.Outcomes.{by-either}
 use Rattle.planner.proofs.Demands as Of
 use Rattle.roll.specs.Format.{fileRules, inputOf, RollOutcome}
@@ -32,6 +34,10 @@ module _ (s buffer : List ℕ) where
 
   abbrev fastest : Fraction
   fastest = fastestOf list
+
+  -- The slowest pace that its floor gives: none, where the mark is AQ.
+  abbrev slowest : Option Fraction
+  slowest = slowestOf list
 
   -- ---- Demand 1
 
@@ -80,25 +86,27 @@ module _ (s buffer : List ℕ) where
 
   -- ---- The inspector's three questions
 
-  -- "Was there a plan that kept every window?" Yes, where `plan_roll` gives number 0: the rows are one.
-  pub was-there-a-plan : (place blocks : ℕ) (after : List ℕ) → RollOutcome s buffer 0 place blocks after → Allowed reports fastest (planIn blocks after)
+  -- "Was there a plan that kept every window?" Yes, where `plan_roll` gives number 0: what runs is one.
+  pub was-there-a-plan :
+      (place blocks : ℕ) (after : List ℕ) → RollOutcome s buffer 0 place blocks after →
+      Allowed reports fastest (runningIn list blocks after) × NoSlower reports slowest (runningIn list blocks after)
   was-there-a-plan place blocks after o = Of.was-there-a-plan list place blocks after (planned place blocks after o)
 
   -- "When a buoy says there is none, how do you know?" Where it gives number 9, every plan fails that runs no report faster than P/Q; and with all reports at that pace, the report named still comes late.
   pub how-do-you-know-there-is-none :
       (place blocks : ℕ) (after : List ℕ) → RollOutcome s buffer 9 place blocks after →
-      ((T : Paces) → Allowed reports fastest T → ⊥) × (whole (reports .deadline place) ≺ finish reports (steady fastest) place)
+      ((T : Paces) → Allowed reports fastest T → ⊥) × NoSlower reports slowest (steady fastest) × (whole (reports .deadline place) ≺ finish reports (steady fastest) place)
   how-do-you-know-there-is-none place blocks after o = Of.how-do-you-know-there-is-none list place blocks after (without-a-plan place blocks after o)
 
-  -- "When it hurries, did it need to?" Yes, over the whole list: at no threshold c has a plan that keeps the list a smaller sum of operations times shortfall (demand 3),
+  -- "When it hurries, did it need to?" Yes, over the whole list: at no threshold c up to the floor has a plan that keeps the list a smaller sum of operations times shortfall than what runs (demand 3),
   pub did-it-need-to-hurry :
       (place blocks : ℕ) (after : List ℕ) → RollOutcome s buffer 0 place blocks after →
-      (rival : Paces) → Keeps reports rival → (c : Fraction) → sumAt reports c (planIn blocks after) ≼ sumAt reports c rival
+      (rival : Paces) → Keeps reports rival → (c : Fraction) → UpTo slowest c → sumAt reports c (runningIn list blocks after) ≼ sumAt reports c rival
   did-it-need-to-hurry place blocks after o = Of.did-it-need-to-hurry list place blocks after (planned place blocks after o)
 
-  -- and no cost that falls in ever flatter straight pieces can be lowered.
+  -- and no cost that falls in ever flatter straight pieces can be lowered by one that is no slower than the floor.
   pub no-cost-can-be-lowered :
       (place blocks : ℕ) (after : List ℕ) → RollOutcome s buffer 0 place blocks after →
-      (rival : Paces) → Keeps reports rival → (c : Cost) → Flatter (c .pieces) (c .rest) →
-      NoHigher (bill reports c (planIn blocks after)) (bill reports c rival)
+      (rival : Paces) → Keeps reports rival → NoSlower reports slowest rival → (c : Cost) → Flatter (c .pieces) (c .rest) →
+      NoHigher (bill reports c (runningIn list blocks after)) (bill reports c rival)
   no-cost-can-be-lowered place blocks after o = Of.no-cost-can-be-lowered list place blocks after (planned place blocks after o)

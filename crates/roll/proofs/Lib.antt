@@ -1,3 +1,4 @@
+pub mod Marks
 pub mod FileRules
 pub mod Rolls
 pub mod OneResult

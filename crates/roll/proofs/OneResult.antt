@@ -1,19 +1,18 @@
 -- The promises of the roll's reader and of `plan_roll` allow one result for each string of bytes, and for `plan_roll` there is one: the file rules decide each.
 -- Assumes nothing.
-use Prim.Native.Nat.{ℕ, _-_}
+use Prim.Native.Nat.{ℕ}
 use mathlib.Core.Path.{_≡_, sym, _∙_, ap}
 use mathlib.Core.List.{List}
-use mathlib.Core.Logic.{_⊎_, inl, inr, ⊎-elim}
-use native.Mathlib.Decide.{ℕ-discrete}
-use lib.ListN.{length, getD}
+use mathlib.Core.Logic.{_⊎_, ⊎-elim}
 use denote.Ref.{RefT}
 use Rattle.trials.specs.Rules.{Accepted, Refused}
 use Rattle.trials.proofs.Passing.{Passed, last-part}
 use Rattle.trials.proofs.Single.{Soles, singly, not-refused, one-refuses}
-use Rattle.trials.proofs.Deciding.{Decidable, Decides, Gives, deciding, passed-or-given}
+use Rattle.trials.proofs.Deciding.{Decides, Gives, deciding, passed-or-given}
 use Rattle.rules.specs.Offsets.{Input, reportsOf, fastestOf}
 use Rattle.rules.specs.Rules.{planRules}
 use Rattle.rules.specs.declared.Roll.{Roll}
+use Rattle.rules.specs.declared.Floor.{Floor}
 use Rattle.answers.specs.Numbers.{numberOf, placeOf, blocksOf, Proper}
 use Rattle.answers.specs.declared.Answer.{Answer}
 use Rattle.answers.proofs.Replies.{same-answer}
@@ -21,13 +20,16 @@ use Rattle.planner.proofs.OneResult.{one-outcome}
 use Rattle.planner.proofs.SomeResult.{some-result}
 use Rattle.planner.proofs.Outcomes.{hands-up, goes-on}
 use Rattle.rules.proofs.Table.{one-plan-rule, works}
-use Rattle.roll.specs.Format.{Marked, fileRules, inputOf, rollRules, RollOutcome}
-use Rattle.roll.specs.Answers.{TrailerAnswerIs, TrailerIs, NumbersRead, NumbersIs, PartFrom, PartIs}
+use Rattle.roll.specs.Format.{fileRules, inputOf, rollRules, RollOutcome}
+use Rattle.roll.specs.Answers.{TrailerAnswerIs, TrailerIs, EndingIs, NumbersRead, NumbersIs, PartFrom, PartIs}
 use Rattle.roll.specs.declared.Trailer.{Trailer}
+use Rattle.roll.specs.declared.Ending.{Ending}
+use Rattle.roll.specs.declared.FloorNumbers.{FloorNumbers}
 use Rattle.roll.specs.declared.Numbers.{Numbers}
 use Rattle.roll.specs.declared.Reading.{Reading}
 use Rattle.roll.specs.declared.TrailerAnswer.{TrailerAnswer}
 use Rattle.roll.specs.declared.TrailerAnswer.the-variants.{Is, Not}
+use Rattle.roll.proofs.Marks.{dec-marked}
 
 -- ---- each rule is given with one place only
 pub single-file : (s : List ℕ) → Soles (fileRules s)
@@ -63,23 +65,23 @@ unfolding trailer
 one-trailer s t u v w =
     ap (λ (z : ℕ). trailer z (t .terms)) (v .count-is ∙ sym (w .count-is)) ∙ ap (trailer (u .count)) (v .terms-is ∙ sym (w .terms-is))
 
+ending : Trailer → Floor → Ending
+ending trailer floor = record { trailer = trailer; floor = floor }
+
+one-ending : (s : List ℕ) (e f : Ending) → EndingIs s e → EndingIs s f → e ≡ f
+unfolding ending
+one-ending s e f v w =
+    ap (λ (t : Trailer). ending t (e .floor)) (one-trailer s (e .trailer) (f .trailer) (v .trailer-is) (w .trailer-is)) ∙ ap (ending (f .trailer)) (v .floor-is ∙ sym (w .floor-is))
+
 -- The promise of `read_trailer` allows one answer for each string of bytes.
 pub one-trailer-answer : (s : List ℕ) (r r′ : TrailerAnswer) → TrailerAnswerIs s r → TrailerAnswerIs s r′ → r ≡ r′
 unfolding TrailerAnswerIs
-one-trailer-answer s (Is t) (Is u) v w = ap Is (one-trailer s t u (v .1) (w .1))
-one-trailer-answer s (Is t) (Not b) v w = absurd (not-refused (fileRules s) (v .0) (b .number) (b .place) (w .refused))
-one-trailer-answer s (Not a) (Is u) v w = absurd (not-refused (fileRules s) (w .0) (a .number) (a .place) (v .refused))
+one-trailer-answer s (Is e) (Is f) v w = ap Is (one-ending s e f (v .1) (w .1))
+one-trailer-answer s (Is e) (Not b) v w = absurd (not-refused (fileRules s) (v .0) (b .number) (b .place) (w .refused))
+one-trailer-answer s (Not a) (Is f) v w = absurd (not-refused (fileRules s) (w .0) (a .number) (a .place) (v .refused))
 one-trailer-answer s (Not a) (Not b) v w = ap Not (one-refuses (single-file s) v w)
 
 -- ---- every string of bytes is accepted or refused by the file rules
-unfoldable pub dec-marked : {s : List ℕ} → Decidable (Marked s)
-dec-marked {s} = record {
-  decided = elim (ℕ-discrete (getD s (length s - 2) 0) 0x41) [
-    | yes a ↦ elim (ℕ-discrete (getD s (length s - 1) 0) 0x51) [ yes q ↦ inl (record { a = a; q = q }) | no n ↦ inr (λ m. n (m .q)) ]
-    | no n ↦ inr (λ m. n (m .a))
-  ];
-}
-
 pub decides-file : (s : List ℕ) → Decides (fileRules s)
 decides-file s = search (deciding, dec-marked) depth 40
 
@@ -118,16 +120,17 @@ pub one-part : (s a b : RefT (List ℕ)) → PartIs s a → PartIs s b → SameS
 one-part s a b v w = by-file (s .now) (SameSlice a b) (λ q. one-part-from (v .accepted q) (w .accepted q)) (λ number place q. one-part-from (v .refused number place q) (w .refused number place q))
 
 -- ---- read_numbers, and read
-numbers : ℕ → Trailer → ℕ → ℕ → Numbers
-numbers k t at size = record { refusal = k; trailer = t; at = at; size = size }
+numbers : ℕ → Trailer → FloorNumbers → ℕ → ℕ → Numbers
+numbers k t f at size = record { refusal = k; trailer = t; floor = f; at = at; size = size }
 
 one-numbers-read : (s : List ℕ) (m n : Numbers) → NumbersRead s m → NumbersRead s n → m ≡ n
 unfolding numbers
 one-numbers-read s m n v w =
-    ap (λ (k : ℕ). numbers k (m .trailer) (m .at) (m .size)) (v .refusal-is ∙ sym (w .refusal-is))
-    ∙ ap (λ (t : Trailer). numbers (n .refusal) t (m .at) (m .size)) (one-trailer s (m .trailer) (n .trailer) (v .trailer-is) (w .trailer-is))
-    ∙ ap (λ (k : ℕ). numbers (n .refusal) (n .trailer) k (m .size)) (v .at-is ∙ sym (w .at-is))
-    ∙ ap (numbers (n .refusal) (n .trailer) (n .at)) (v .size-is ∙ sym (w .size-is))
+    ap (λ (k : ℕ). numbers k (m .trailer) (m .floor) (m .at) (m .size)) (v .refusal-is ∙ sym (w .refusal-is))
+    ∙ ap (λ (t : Trailer). numbers (n .refusal) t (m .floor) (m .at) (m .size)) (one-trailer s (m .trailer) (n .trailer) (v .trailer-is) (w .trailer-is))
+    ∙ ap (λ (f : FloorNumbers). numbers (n .refusal) (n .trailer) f (m .at) (m .size)) (v .floor-is ∙ sym (w .floor-is))
+    ∙ ap (λ (k : ℕ). numbers (n .refusal) (n .trailer) (n .floor) k (m .size)) (v .at-is ∙ sym (w .at-is))
+    ∙ ap (numbers (n .refusal) (n .trailer) (n .floor) (n .at)) (v .size-is ∙ sym (w .size-is))
 
 -- The promise of `read_numbers` allows one answer for each string of bytes.
 pub one-numbers : (s : List ℕ) (m n : Numbers) → NumbersIs s m → NumbersIs s n → m ≡ n

@@ -1,9 +1,10 @@
 -- The free preface is never looked at: two rolls with the same last bytes, from the first record on, have the same outcome.
 -- Assumes nothing.
 use Prim.Native.Nat.{ℕ, _+_, _*_, _-_, _≤_}
-use mathlib.Core.Path.{_≡_, sym, _∙_, ap, ap₂, subst}
+use mathlib.Core.Path.{_≡_, refl, sym, _∙_, ap, ap₂, subst}
+use mathlib.Core.Bool.{Bool, true, false, cond}
 use mathlib.Core.List.{List, _++_}
-use mathlib.Core.Logic.{⊎-elim}
+use mathlib.Core.Logic.{inl, inr, ⊎-elim}
 use native.Mathlib.Omega.{arith}
 use lib.ListN.{length, getD, take, drop, length-append}
 use lib.Seq.{getD-append-add, drop-append-add}
@@ -11,9 +12,12 @@ use Rattle.trials.proofs.Alike.{Alike, alike-none, alike-more, alike-back, alik
 use Rattle.rules.specs.Offsets.{Input, reportsOf, fastestOf}
 use Rattle.rules.specs.Rules.{planRules}
 use Rattle.rules.specs.declared.Roll.{Roll}
+use Rattle.rules.specs.declared.Floor.{Floor}
+use Rattle.rules.specs.declared.Floor.the-variants.{Slowest}
 use Rattle.planner.specs.Outcome.{PlanOutcome}
 use Rattle.planner.proofs.Outcomes.{by-either, refused-outcome, goes-on}
-use Rattle.roll.specs.Format.{u16At, u32At, backOf, countOf, termsOf, Marked, fileRules, recordsOf, inputIn, inputOf, RollOutcome}
+use Rattle.roll.specs.Format.{u16At, u32At, backOf, countOf, termsOf, mark, floorMark, endsIn, hasFloor, trailerLong, floorOf, Marked, fileRules, recordsOf, inputIn, inputOf, RollOutcome}
+use Rattle.roll.proofs.Marks.{same-ends, with-floor, without-floor, trailer-range}
 
 -- two rolls with the same list, whose file rules are given alike, have the same outcome
 same-outcome :
@@ -60,18 +64,21 @@ module _ (preface rest : List ℕ) where
   four-end : (k : ℕ) → k ≤ length rest → u32At s (length s - k) ≡ u32At rest (length rest - k)
   four-end k h = ap (λ (j : ℕ). u32At s j) (from-end k h) ∙ four (length rest - k)
 
-  module _ (long : 16 ≤ length rest) (reaches : backOf rest ≤ length rest) where
+  module _ (long : trailerLong rest ≤ length rest) (reaches : backOf rest ≤ length rest) where
+    least : 16 ≤ length rest
+    least = omega (arith, long, trailer-range rest .0)
+
     -- ---- the trailer is the same
     back-same : backOf s ≡ backOf rest
-    back-same = four-end 16 long
+    back-same = four-end 16 least
 
     count-same : countOf s ≡ countOf rest
-    count-same = two-end 8 (omega arith)
+    count-same = two-end 8 (omega (arith, least))
 
     terms-same : termsOf s ≡ termsOf rest
     terms-same =
-        ap (λ (k : ℕ). terms k (u16At s (length s - 6)) (u16At s (length s - 4))) (four-end 12 (omega arith))
-        ∙ ap₂ (λ (p q : ℕ). terms (u32At rest (length rest - 12)) p q) (two-end 6 (omega arith)) (two-end 4 (omega arith))
+        ap (λ (k : ℕ). terms k (u16At s (length s - 6)) (u16At s (length s - 4))) (four-end 12 (omega (arith, least)))
+        ∙ ap₂ (λ (p q : ℕ). terms (u32At rest (length rest - 12)) p q) (two-end 6 (omega (arith, least))) (two-end 4 (omega (arith, least)))
       where
         terms : ℕ → ℕ → ℕ → Roll
         terms reference p q = record { reference = reference; p = p; q = q }
@@ -81,31 +88,51 @@ module _ (preface rest : List ℕ) where
         let e : length s - backOf s ≡ length preface + (length rest - backOf rest) = ap (λ (k : ℕ). length s - k) back-same ∙ from-end (backOf rest) reaches in
         ap₂ (λ (k : ℕ) (l : List ℕ). take (12 * k) l) count-same (ap (λ (k : ℕ). drop k s) e ∙ drop-append-add preface rest (length rest - backOf rest))
 
+    -- the marks too, and so the floor
+    ends-same : (m : List ℕ) → endsIn s m ≡ endsIn rest m
+    ends-same m = same-ends s rest m (byte-end 2 (omega (arith, least))) (byte-end 1 (omega (arith, least)))
+
+    long-same : trailerLong s ≡ trailerLong rest
+    unfolding trailerLong
+    long-same = ap (λ (b : Bool). cond b 20 16) (ends-same floorMark)
+
+    floor-same : floorOf s ≡ floorOf rest
+    floor-same = go (hasFloor rest) refl
+      where
+        go : (b : Bool) → hasFloor rest ≡ b → floorOf s ≡ floorOf rest
+        go true e =
+            let n : 20 ≤ length rest = omega (arith, long, with-floor rest e .0) in
+            with-floor s (ends-same floorMark ∙ e) .1
+            ∙ ap₂ (λ (r t : ℕ). Slowest r t) (two-end 20 n) (two-end 18 (omega (arith, n))) ∙ sym (with-floor rest e .1)
+        go false e = without-floor s (ends-same floorMark ∙ e) .1 ∙ sym (without-floor rest e .1)
+
     -- so is the list
     input-same : (buffer : List ℕ) → inputOf s buffer ≡ inputOf rest buffer
     input-same buffer =
-        ap (λ (part : List ℕ). inputIn part (countOf s) (termsOf s) buffer) records-same
-        ∙ ap₂ (λ (k : ℕ) (t : Roll). inputIn (recordsOf rest) k t buffer) count-same terms-same
+        ap (λ (part : List ℕ). inputIn part (countOf s) (termsOf s) (floorOf s) buffer) records-same
+        ∙ ap₂ (λ (k : ℕ) (t : Roll). inputIn (recordsOf rest) k t (floorOf s) buffer) count-same terms-same
+        ∙ ap (λ (f : Floor). inputIn (recordsOf rest) (countOf rest) (termsOf rest) f buffer) floor-same
 
     -- ---- and the file rules are given alike
     marked-there : Marked s → Marked rest
-    marked-there m = record { a = sym (byte-end 2 (omega arith)) ∙ m .a; q = sym (byte-end 1 (omega arith)) ∙ m .q }
+    marked-there m = record { is = ⊎-elim (λ e. inl (sym (ends-same mark) ∙ e)) (λ e. inr (sym (ends-same floorMark) ∙ e)) (m .is) }
 
     marked-back : Marked rest → Marked s
-    marked-back m = record { a = byte-end 2 (omega arith) ∙ m .a; q = byte-end 1 (omega arith) ∙ m .q }
+    marked-back m = record { is = ⊎-elim (λ e. inl (ends-same mark ∙ e)) (λ e. inr (ends-same floorMark ∙ e)) (m .is) }
 
     files-alike : Alike (fileRules s) (fileRules rest)
     files-alike =
         let n : length s ≡ length preface + length rest = length-append preface rest in
-        alike-more (same-overall (λ h. omega (arith, n, h)) (λ h. absurd (omega (arith, h))))
+        let back : trailerLong s + 12 * countOf s ≡ trailerLong rest + 12 * countOf rest = ap₂ (λ (a b : ℕ). a + 12 * b) long-same count-same in
+        alike-more (same-overall (λ h. absurd (omega (arith, n, long-same, long, h))) (λ h. absurd (omega (arith, long, h))))
         (alike-more (same-overall (λ h m. h (marked-back m)) (λ h m. h (marked-there m)))
-        (alike-more (same-overall (λ h e. h (back-same ∙ e ∙ ap (λ (k : ℕ). 16 + 12 * k) (sym count-same))) (λ h e. h (sym back-same ∙ e ∙ ap (λ (k : ℕ). 16 + 12 * k) count-same)))
-        (alike-more (same-overall (λ h. absurd (omega (arith, n, back-same, h))) (λ h. absurd (omega (arith, h)))) alike-none)))
+        (alike-more (same-overall (λ h e. h (back-same ∙ e ∙ sym back)) (λ h e. h (sym back-same ∙ e ∙ back)))
+        (alike-more (same-overall (λ h. absurd (omega (arith, n, back-same, reaches, h))) (λ h. absurd (omega (arith, reaches, h)))) alike-none)))
 
 -- Whatever stands before the first record: the outcome is the same.
 pub the-preface-has-no-influence :
     (preface other rest buffer : List ℕ) (number place blocks : ℕ) (after : List ℕ) →
-    16 ≤ length rest → backOf rest ≤ length rest →
+    trailerLong rest ≤ length rest → backOf rest ≤ length rest →
     RollOutcome (preface ++ rest) buffer number place blocks after → RollOutcome (other ++ rest) buffer number place blocks after
 the-preface-has-no-influence preface other rest buffer number place blocks after long reaches o =
     same-outcome rest (other ++ rest) buffer number place blocks after (alike-back (files-alike other rest long reaches)) (sym (input-same other rest long reaches buffer))

@@ -1,5 +1,6 @@
 // rolls: made rolls, each with its name and the text that rollplan would write for it. Every number
-// that a roll can be answered with is among them, as is every shorter front of 01's sample.
+// that a roll can be answered with is among them, with a floor and without, as is every shorter front of
+// 01's sample.
 use answers::Row;
 use libc::STDOUT_FILENO;
 use rolltext::Program;
@@ -50,6 +51,55 @@ const SAMPLE: [u8; 40] = [
     0x51,
 ];
 
+// The sample with a floor, the slowest pace 3/2: R and T come first in the trailer, the back distance is
+// 4 longer, and the mark is AF (02, W2).
+const FLOORED: [u8; 44] = [
+    0x64,
+    0,
+    0,
+    0,
+    0x68,
+    0,
+    0,
+    0,
+    2,
+    0,
+    0,
+    0,
+    0x64,
+    0,
+    0,
+    0,
+    0x70,
+    0,
+    0,
+    0,
+    2,
+    0,
+    0,
+    0,
+    3,
+    0,
+    2,
+    0,
+    0x2c,
+    0,
+    0,
+    0,
+    0x64,
+    0,
+    0,
+    0,
+    2,
+    0,
+    1,
+    0,
+    1,
+    0,
+    0x41,
+    0x46,
+];
+
 // The text for an input, with a row buffer of the caller's.
 fn show(input: &[u8], rows: &mut [u32]) {
     let mut out = [0u8; Program::TEXT];
@@ -75,6 +125,34 @@ fn changed(name: &[u8], at: usize, to: u8)
     let mut roll = SAMPLE;
     roll[at] = to;
     named(name, &roll);
+}
+
+// The sample with a floor, with one byte changed.
+fn changed_floor(name: &[u8], at: usize, to: u8)
+    requires { ⌜ at < 44 ⌝ }
+{
+    let mut roll = FLOORED;
+    roll[at] = to;
+    named(name, &roll);
+}
+
+// Rolls with a floor: the rows are as without one, and every rule in which 20 stands for 16.
+fn floors() {
+    named(b"0, the sample with the floor 3/2:\n", &FLOORED);
+    changed_floor(b"0, the floor is P/Q:\n", 24, 2);
+    changed_floor(b"16, R is 0:\n", 24, 0);
+    changed_floor(b"16, T is 0:\n", 26, 0);
+    changed_floor(b"17, the floor is 1/2:\n", 24, 1);
+    changed_floor(b"4 before 17, the floor is 3/2 and Q is 0:\n", 40, 0);
+    changed_floor(b"11, the mark is AE:\n", 43, 0x45);
+    changed_floor(b"12, marked AQ:\n", 43, 0x51);
+    changed_floor(b"12, the back distance of AQ:\n", 28, 40);
+    let mut roll = FLOORED;
+    roll[28] = 56;
+    roll[36] = 3;
+    named(b"13, a record more than there are bytes:\n", &roll);
+    named(b"10, the last 19 bytes:\n", &FLOORED[25..]);
+    named(b"13, the last 20 bytes:\n", &FLOORED[24..]);
 }
 
 // Rules of the file.
@@ -163,4 +241,5 @@ fn main() {
     too_long();
     io::write_all(STDOUT_FILENO, b"every shorter front of the sample:\n");
     fronts();
+    floors();
 }

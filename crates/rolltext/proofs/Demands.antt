@@ -6,6 +6,7 @@ use Prim.Native.Nat.{ℕ, _*_, _≤_}
 use mathlib.Core.Path.{_≡_, sym, _∙_, ap, subst}
 use mathlib.Core.List.{List, [], _∷_}
 use mathlib.Core.Logic.{_⊎_, inl, inr, ⊎-elim}
+use mathlib.Core.Option.{Option}
 use native.Mathlib.Omega.{arith}
 use lib.ListN.{length, take}
 use Rattle.answers.specs.Numbers.{width}
@@ -14,8 +15,9 @@ use Rattle.trials.proofs.Numbers.{Never, never-none, never-other}
 use Rattle.fraction.specs.Fraction.{Fraction, _≼_, _≺_, whole}
 use Rattle.critical.specs.Reports.{Reports, Paces, finish, Keeps, Allowed, steady}
 use Rattle.critical.specs.Cost.{sumAt}
-use Rattle.rules.specs.Offsets.{Input, reportsOf, fastestOf}
-use Rattle.planner.specs.Outcome.{planIn, RefusedBy}
+use Rattle.slowest.specs.Slowest.{UpTo, NoSlower}
+use Rattle.rules.specs.Offsets.{Input, reportsOf, fastestOf, slowestOf}
+use Rattle.planner.specs.Outcome.{runningIn, RefusedBy}
 use Rattle.planner.proofs.Outcomes.{by-either}
 use Rattle.roll.specs.Format.{inputOf, rollRules, RollOutcome}
 use Rattle.roll.proofs.Demands as Of
@@ -35,6 +37,10 @@ module _ (s rows out : List ℕ) (r : ℕ) (after text : List ℕ) (says : Says 
 
   abbrev fastest : Fraction
   fastest = fastestOf list
+
+  -- The slowest pace that its floor gives: none, where the mark is AQ.
+  abbrev slowest : Option Fraction
+  slowest = slowestOf list
 
   -- What is written.
   abbrev written : List ℕ
@@ -75,8 +81,8 @@ module _ (s rows out : List ℕ) (r : ℕ) (after text : List ℕ) (says : Says 
 
   -- ---- The inspector's three questions
 
-  -- "Was there a plan that kept every window?" Yes, where the first line begins with `plan 0`: the rows, which are the lines that follow, are one.
-  pub was-there-a-plan : (place blocks : ℕ) → Begins written 0 place blocks → Allowed reports fastest (planIn blocks after)
+  -- "Was there a plan that kept every window?" Yes, where the first line begins with `plan 0`: what runs is one, each report at the pace of its row, and the rows are the lines that follow; or at the floor, where that is faster.
+  pub was-there-a-plan : (place blocks : ℕ) → Begins written 0 place blocks → Allowed reports fastest (runningIn list blocks after) × NoSlower reports slowest (runningIn list blocks after)
   was-there-a-plan place blocks b = Of.was-there-a-plan s rows place blocks after (planned place blocks b)
 
   pub the-lines-that-follow-are-the-rows : (place blocks : ℕ) → Begins written 0 place blocks → written ≡ planText 0 place blocks after
@@ -89,11 +95,11 @@ module _ (s rows out : List ℕ) (r : ℕ) (after text : List ℕ) (says : Says 
   -- the report named still comes late.
   pub how-do-you-know-there-is-none :
       (place blocks : ℕ) → Begins written 9 place blocks →
-      ((T : Paces) → Allowed reports fastest T → ⊥) × (whole (reports .deadline place) ≺ finish reports (steady fastest) place)
+      ((T : Paces) → Allowed reports fastest T → ⊥) × NoSlower reports slowest (steady fastest) × (whole (reports .deadline place) ≺ finish reports (steady fastest) place)
   how-do-you-know-there-is-none place blocks b = Of.how-do-you-know-there-is-none s rows place blocks after (without-a-plan place blocks b)
 
-  -- "When it hurries, did it need to?" Yes, over the whole list: at no threshold c has a plan that keeps the list a smaller sum of operations times shortfall than the plan of the lines that follow.
+  -- "When it hurries, did it need to?" Yes, over the whole list: at no threshold c up to the floor has a plan that keeps the list a smaller sum of operations times shortfall than what runs.
   pub did-it-need-to-hurry :
       (place blocks : ℕ) → Begins written 0 place blocks →
-      (rival : Paces) → Keeps reports rival → (c : Fraction) → sumAt reports c (planIn blocks after) ≼ sumAt reports c rival
+      (rival : Paces) → Keeps reports rival → (c : Fraction) → UpTo slowest c → sumAt reports c (runningIn list blocks after) ≼ sumAt reports c rival
   did-it-need-to-hurry place blocks b = Of.did-it-need-to-hurry s rows place blocks after (planned place blocks b)

@@ -20,9 +20,10 @@ use Rattle.rules.specs.Offsets.{Input, reportsOf, fastestOf}
 use Rattle.rules.specs.Rules.{earlierRules}
 use Rattle.planner.specs.Outcome.{rowAt, Written}
 use Rattle.planner.proofs.Outcomes.{accepts}
-use Rattle.roll.specs.Format.{fileRules, inputOf}
+use Rattle.roll.specs.Format.{endsIn, trailerLong, floorOf, fileRules, inputOf}
 use Rattle.lists.specs.Listed.{listed}
-use Rattle.roll.proofs.OneResult.{dec-marked}
+use Rattle.rules.proofs.Table.{dec-floor, dec-slower}
+use Rattle.roll.proofs.Marks.{dec-marked}
 use Rattle.text.specs.Text.{placesUpTo, line, rowLines, planText}
 use Rattle.rolltext.specs.Program.{longRule, ProgramOutcome}
 
@@ -72,11 +73,11 @@ module _ (b : List ℕ) where
   -- the rules before rule 9 can be decided,
   unfoldable decides-sample : width * 2 ≤ length b → Decides (longRule sample ∷ (fileRules sample ++ earlierRules x))
   unfolding sample listed
-  decides-sample h = let room : Decidable (length b < width * length (x .arrivals)) = record { decided = inr (λ l. omega (arith, h, l)) } in search (deciding, dec-marked) depth 60
+  decides-sample h = let room : Decidable (length b < width * length (x .arrivals)) = record { decided = inr (λ l. omega (arith, h, l)) } in search (deciding, dec-marked, dec-floor, dec-slower) depth 60
 
   -- and none is given, which is computed
   sample-form : width * 2 ≤ length b → Passed (longRule sample ∷ (fileRules sample ++ earlierRules x))
-  unfolding sample listed decides-sample passes Decided dec-below dec-equal dec-not dec-or dec-falls dec-marked decides-none decides-overall decides-least least-or-none Falls ℕ-discrete decLt
+  unfolding sample listed endsIn trailerLong floorOf dec-floor dec-slower decides-sample passes Decided dec-below dec-equal dec-not dec-or dec-falls dec-marked decides-none decides-overall decides-least least-or-none Falls ℕ-discrete decLt
   sample-form h = passed-by (decides-sample h) tt
 
   -- The sample is accepted, with the two rows of 01.

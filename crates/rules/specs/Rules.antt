@@ -1,4 +1,4 @@
--- The refusals and their order (01's table). What a rule is, and that the first that is given refuses, is trials/specs/Rules.antt.
+-- The refusals and their order (01's table, and 02's 16 and 17 for a floor). What a rule is, and that the first that is given refuses, is trials/specs/Rules.antt.
 -- Assumes nothing.
 use Prim.Native.Nat.{ℕ, _*_, _<_}
 use mathlib.Core.Path.{_≡_}
@@ -7,12 +7,14 @@ use mathlib.Core.Logic.{_⊎_}
 use lib.ListN.{length}
 use Rattle.answers.specs.Numbers.{width}
 use Rattle.trials.specs.Rules.{Rule, rule, Overall, Least, Outside, Falls}
-use Rattle.fraction.specs.Fraction.{Fraction}
+use Rattle.fraction.specs.Fraction.{Fraction, _≺_, over}
 use Rattle.critical.specs.Reports.{Reports, FirstWithout}
-use Rattle.rules.specs.Offsets.{Input, reportsOf, fastestOf}
+use Rattle.rules.specs.Offsets.{Input, paceOf, reportsOf, fastestOf}
 use Rattle.rules.specs.declared.Roll.{Roll}
+use Rattle.rules.specs.declared.Floor.{Floor}
+use Rattle.rules.specs.declared.Floor.the-variants.{Absent, Slowest}
 
--- ---- rules of the whole list: of how long the lists and the row buffer are, and of the terms
+-- ---- rules of the whole list: of how long the lists and the row buffer are, of the terms, and of the floor
 -- 1: the three lists differ in length.
 abbrev pub lengthsRule : ℕ → ℕ → ℕ → Rule
 lengthsRule arrivals deadlines operations = rule 1 (Overall ((arrivals ≡ deadlines → ⊥) ⊎ (arrivals ≡ operations → ⊥)))
@@ -25,17 +27,42 @@ manyRule reports = rule 2 (Overall (1024 < reports))
 abbrev pub shortRule : ℕ → ℕ → Rule
 shortRule reports room = rule 3 (Overall (room < width * reports))
 
+-- The upper or the lower number of a pace is outside 1 to 65,535.
+abbrev pub BadPace : ℕ → ℕ → Type 0
+BadPace upper lower = Outside 1 65535 upper ⊎ Outside 1 65535 lower
+
 -- 4: P or Q outside 1 to 65,535.
 abbrev pub paceRule : Roll → Rule
-paceRule terms = rule 4 (Overall (Outside 1 65535 (terms .p) ⊎ Outside 1 65535 (terms .q)))
+paceRule terms = rule 4 (Overall (BadPace (terms .p) (terms .q)))
+
+-- Something is so of R and T: never where the floor is absent.
+abbrev pub OfFloor : Floor → (ℕ → ℕ → Type 0) → Type 0
+OfFloor Absent P = ⊥
+OfFloor (Slowest r t) P = P r t
+
+-- 16: R or T outside 1 to 65,535.
+abbrev pub BadFloor : Floor → Type 0
+BadFloor floor = OfFloor floor (λ r t. BadPace r t)
+
+abbrev pub floorRule : Floor → Rule
+floorRule floor = rule 16 (Overall (BadFloor floor))
+
+-- 17: R/T below P/Q.
+abbrev pub FloorBelow : Floor → Roll → Type 0
+FloorBelow floor terms = OfFloor floor (λ r t. over r t ≺ paceOf terms)
+
+abbrev pub belowRule : Floor → Roll → Rule
+belowRule floor terms = rule 17 (Overall (FloorBelow floor terms))
 
 -- In their order.
-abbrev pub countRules : ℕ → ℕ → ℕ → Roll → ℕ → List Rule
-countRules arrivals deadlines operations terms room =
+abbrev pub countRules : ℕ → ℕ → ℕ → Roll → Floor → ℕ → List Rule
+countRules arrivals deadlines operations terms floor room =
     lengthsRule arrivals deadlines operations
     ∷ manyRule arrivals
     ∷ shortRule arrivals room
     ∷ paceRule terms
+    ∷ floorRule floor
+    ∷ belowRule floor terms
     ∷ []
 
 -- ---- rules of the reports
@@ -74,9 +101,9 @@ reportRules ℓ fastest = formRules ℓ ++ (planRule ℓ fastest ∷ [])
 
 -- ---- all of them, of an input
 abbrev pub overallRules : Input → List Rule
-overallRules x = countRules (length (x .arrivals)) (length (x .deadlines)) (length (x .operations)) (x .terms) (length (x .buffer))
+overallRules x = countRules (length (x .arrivals)) (length (x .deadlines)) (length (x .operations)) (x .terms) (x .floor) (length (x .buffer))
 
--- Rules 1 to 8: all of them but the last.
+-- All of them but the last, rule 9.
 abbrev pub earlierRules : Input → List Rule
 earlierRules x = overallRules x ++ formRules (reportsOf x)
 

@@ -1,16 +1,16 @@
-// 01's table of refusals, rules 1 to 9, and what they leave (specs/): the types that they are about, with
-// their limits, and rules 1 to 4 tried in their order.
+// 01's table of refusals, rules 1 to 9, with a floor's 16 and 17 (02, W2), and what they leave (specs/):
+// the types that they are about, with their limits, and the rules of the whole list tried in their order.
 use answers::Refusal;
 use answers::Row;
+use fraction::Pace;
 use trials::Verdict;
 use trials::or_if;
 ghost use mathlib.Core.Path.{_≡_};
 ghost use mathlib.Core.Logic.{_⊎_};
-ghost use Prim.Native.Nat.{_*_, _<_};
+ghost use Prim.Native.Nat.{_*_, _<_, max};
 ghost use Rattle.answers.specs.Numbers.{width};
-ghost use Rattle.trials.specs.Rules.{Outside};
 ghost use Rattle.trials.specs.Tries.{Tells, After};
-ghost use Rattle.rules.specs.Rules.{countRules};
+ghost use Rattle.rules.specs.Rules.{BadPace, BadFloor, FloorBelow, countRules};
 
 // A report, by its offsets.
 pub struct Report {
@@ -48,7 +48,7 @@ pub struct Roll {
 impl Roll {
     // The most reports a roll may have.
     pub const REPORTS: usize = 1024;
-    // The largest P and Q.
+    // The largest P and Q, and the largest R and T of a floor.
     pub const PACE: u32 = 65535;
 
     pub fn new(reference: u32, p: u32, q: u32) -> Roll
@@ -56,6 +56,14 @@ impl Roll {
     {
         Roll { reference, p, q }
     }
+}
+
+// The slowest pace, R/T, that a caller may give beside the terms (02, W2).
+pub enum Floor {
+    // There is none: a report may be drawn out as far as its room allows.
+    Absent,
+    // R and T.
+    Slowest(u32, u32),
 }
 
 // Whether three lists differ in length.
@@ -75,34 +83,78 @@ fn short(reports: usize, room: usize) -> bool
     room / Row::WIDTH < reports
 }
 
-// Whether P or Q is a number that it may not be.
-fn bad_pace(terms: Roll) -> bool
-    ensures { λ r. ⌜ Tells (Outside 1 65535 (terms .p) ⊎ Outside 1 65535 (terms .q)) r ⌝ }
+// Whether P or Q, or R or T, is a number that it may not be.
+fn bad_pace(upper: u32, lower: u32) -> bool
+    ensures { λ r. ⌜ Tells (BadPace upper lower) r ⌝ }
 {
-    if trials::outside(terms.p, 1, Roll::PACE) {
+    if trials::outside(upper, 1, Roll::PACE) {
         return true;
     }
-    trials::outside(terms.q, 1, Roll::PACE)
+    trials::outside(lower, 1, Roll::PACE)
 }
 
-// Rules 1 to 4, of how long the lists and the row buffer are, and of the terms: it is handed the
-// verdict of the rules before them, and gives that of all of them. Two lines a rule: whether it is
-// given, and or_if.
+// Whether there is a floor, and its R or T is such a number.
+fn bad_floor(floor: Floor) -> bool
+    ensures { λ r. ⌜ Tells (BadFloor floor) r ⌝ }
+{
+    let Floor::Slowest(r, t) = floor else {
+        return false;
+    };
+    bad_pace(r, t)
+}
+
+// The lower number of a pace; 0 counts as 1, as in the definition (over). A T or Q of 0 is refused
+// before two paces are compared.
+fn at_least_one(lower: u32) -> u32
+    ensures { λ r. ⌜ r ≡ max 1 lower ⌝ }
+{
+    if lower == 0 {
+        return 1;
+    }
+    lower
+}
+
+// Whether there is a floor, and it is below P/Q.
+fn floor_below(floor: Floor, terms: Roll) -> bool
+    ensures { λ r. ⌜ Tells (FloorBelow floor terms) r ⌝ }
+{
+    let Floor::Slowest(r, t) = floor else {
+        return false;
+    };
+    let slowest = Pace {
+        ticks: r,
+        operations: at_least_one(t),
+    };
+    let fastest = Pace {
+        ticks: terms.p,
+        operations: at_least_one(terms.q),
+    };
+    slowest.below(fastest)
+}
+
+// Rules 1 to 4, 16 and 17, of how long the lists and the row buffer are, of the terms and of the floor:
+// it is handed the verdict of the rules before them, and gives that of all of them. Two lines a rule:
+// whether it is given, and or_if.
 pub fn count_rules(
     so_far: Verdict,
     arrivals: usize,
     deadlines: usize,
     operations: usize,
     terms: Roll,
+    floor: Floor,
     room: usize,
 ) -> Verdict
-    ensures { λ r. ⌜ After «so_far» (countRules arrivals deadlines operations terms room) r ⌝ }
+    ensures { λ r. ⌜ After «so_far» (countRules arrivals deadlines operations terms floor room) r ⌝ }
 {
     let given = uneven(arrivals, deadlines, operations);
     let v = or_if(so_far, given, Refusal::LENGTHS, 0);
     let v = or_if(v, Roll::REPORTS < arrivals, Refusal::TOO_MANY, 0);
     let given = short(arrivals, room);
     let v = or_if(v, given, Refusal::SHORT_BUFFER, 0);
-    let given = bad_pace(terms);
-    or_if(v, given, Refusal::BAD_PACE, 0)
+    let given = bad_pace(terms.p, terms.q);
+    let v = or_if(v, given, Refusal::BAD_PACE, 0);
+    let given = bad_floor(floor);
+    let v = or_if(v, given, Refusal::BAD_FLOOR, 0);
+    let given = floor_below(floor, terms);
+    or_if(v, given, Refusal::FLOOR_BELOW, 0)
 }

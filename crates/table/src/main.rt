@@ -1,6 +1,7 @@
-// Runs every row of 01's table through plan, and each refusal, and writes for each what was handed in,
+// Runs every row of 01's table through plan, each refusal, and lists with a floor, and writes for each what was handed in,
 // what came back, and the buffer, whose 30 numbers are all 7 beforehand.
 use libc::STDOUT_FILENO;
+use rules::Floor;
 use rules::Roll;
 
 // Writes a space and a number.
@@ -47,26 +48,49 @@ fn show_three(names: &[u8], a: u64, b: u64, c: u64) {
     line();
 }
 
-// One row of the table. The buffer has 30 numbers, more than any row needs.
-fn run(arrivals: &[u32], deadlines: &[u32], operations: &[u32], reference: u32, p: u32, q: u32) {
+// What is handed in beside a floor.
+fn show_input(
+    arrivals: &[u32],
+    deadlines: &[u32],
+    operations: &[u32],
+    reference: u32,
+    p: u32,
+    q: u32,
+) {
     show_list(b"arrivals:", arrivals);
     show_list(b"deadlines:", deadlines);
     show_list(b"operations:", operations);
     show_three(b"reference, P, Q:", wide(reference), wide(p), wide(q));
+}
+
+// What comes back, and the buffer. It has 30 numbers, more than any row needs.
+fn show_answer(arrivals: &[u32], deadlines: &[u32], operations: &[u32], terms: Roll, floor: Floor) {
     let mut buffer = [7u32; 30];
-    let answer = planner::plan(
-        arrivals,
-        deadlines,
-        operations,
-        Roll::new(reference, p, q),
-        &mut buffer,
-    );
+    let answer = planner::plan(arrivals, deadlines, operations, terms, floor, &mut buffer);
     let reply = answers::in_numbers(answer);
     let place = reply.place as u64;
     let blocks = reply.blocks as u64;
     show_three(b"number, place, blocks:", wide(reply.number), place, blocks);
     show_list(b"buffer:", &buffer);
     line();
+}
+
+// One row of the table.
+fn run(arrivals: &[u32], deadlines: &[u32], operations: &[u32], reference: u32, p: u32, q: u32) {
+    show_input(arrivals, deadlines, operations, reference, p, q);
+    let terms = Roll::new(reference, p, q);
+    show_answer(arrivals, deadlines, operations, terms, Floor::Absent);
+}
+
+// One report from 0 to 10 with P/Q and the floor R/T.
+fn run_floor(operations: u32, p: u32, q: u32, r: u32, t: u32) {
+    show_input(&[0], &[10], &[operations], 0, p, q);
+    io::write_all(STDOUT_FILENO, b"R, T:");
+    show(wide(r));
+    show(wide(t));
+    line();
+    let terms = Roll::new(0, p, q);
+    show_answer(&[0], &[10], &[operations], terms, Floor::Slowest(r, t));
 }
 
 // The starred rows, in 01's order.
@@ -113,8 +137,23 @@ fn refused() {
     run(&[0, 8], &[9, 3], &[1, 1], 0, 1, 1);
 }
 
+// With a floor (02, W2): the row is as without one; both sides of 16 and of 17; and their order.
+fn floors() {
+    run_floor(4, 1, 1, 2, 1);
+    run_floor(4, 1, 1, 65535, 65535);
+    run_floor(4, 1, 1, 65534, 65535);
+    run_floor(4, 1, 1, 0, 1);
+    run_floor(4, 1, 1, 1, 0);
+    run_floor(4, 1, 1, 65536, 65536);
+    run_floor(4, 0, 1, 0, 0);
+    run_floor(0, 1, 1, 1, 2);
+    run_floor(0, 1, 1, 2, 2);
+    run_floor(11, 1, 1, 1, 1);
+}
+
 fn main() {
     starred();
     others();
     refused();
+    floors();
 }

@@ -1,21 +1,39 @@
-// The library for other languages: the planner's two entry points, the roll's reader and its writer under
+// The library for other languages: the planner's entry points, the roll's reader and its writer under
 // plain names, over numbers and slices. include/vakrhildo.h declares them for C, outside/vakrhildo wraps
 // them for Rust. The promises are those of planner::plan, roll::plan_roll, roll::read and writer::write,
 // in 01's numbers.
 use answers::Reply;
 use roll::Numbers;
+use rules::Floor;
 use rules::Roll;
 use writer::WriteReply;
 ghost use mathlib.Core.Path.{_≡_};
 ghost use Prim.Native.Nat.{_+_};
 ghost use lib.ListN.{take};
+ghost use Rattle.rules.specs.declared.Floor.the-variants.{Absent, Slowest};
 ghost use Rattle.planner.specs.Outcome.{PlanOutcome};
 ghost use Rattle.roll.specs.Format.{RollOutcome};
 ghost use Rattle.roll.specs.Answers.{NumbersIs};
 ghost use Rattle.writer.specs.Bytes.{ReadsBack};
 ghost use Rattle.writer.specs.Writing.{WriteOutcome};
 
-// Plans a list: three lists of readings, the reference, P and Q, and a buffer for rows.
+// Plans a list, and answers in numbers.
+fn planned(
+    arrivals: &[u32],
+    deadlines: &[u32],
+    operations: &[u32],
+    terms: Roll,
+    floor: Floor,
+    rows: &mut [u32],
+) -> Reply
+    ensures { λ r. ⌜ PlanOutcome (record { arrivals = now (arrivals .entry); deadlines = now (deadlines .entry); operations = now (operations .entry); terms = terms; floor = floor; buffer = now (rows .entry) }) (r .number) (r .place) (r .blocks) (now (rows .exit)) ⌝ }
+{
+    let answer = planner::plan(arrivals, deadlines, operations, terms, floor, rows);
+    answers::in_numbers(answer)
+}
+
+// Plans a list: three lists of readings, the reference, P and Q, and a buffer for rows. There is no
+// floor.
 #[no_mangle]
 pub extern "C" fn vakrhildo_plan(
     arrivals: &[u32],
@@ -26,11 +44,36 @@ pub extern "C" fn vakrhildo_plan(
     q: u32,
     rows: &mut [u32],
 ) -> Reply
-    ensures { λ r. ⌜ PlanOutcome (record { arrivals = now (arrivals .entry); deadlines = now (deadlines .entry); operations = now (operations .entry); terms = record { reference = reference; p = p; q = q }; buffer = now (rows .entry) }) (r .number) (r .place) (r .blocks) (now (rows .exit)) ⌝ }
+    ensures { λ r. ⌜ PlanOutcome (record { arrivals = now (arrivals .entry); deadlines = now (deadlines .entry); operations = now (operations .entry); terms = record { reference = reference; p = p; q = q }; floor = Absent; buffer = now (rows .entry) }) (r .number) (r .place) (r .blocks) (now (rows .exit)) ⌝ }
 {
     let terms = Roll { reference, p, q };
-    let answer = planner::plan(arrivals, deadlines, operations, terms, rows);
-    answers::in_numbers(answer)
+    planned(arrivals, deadlines, operations, terms, Floor::Absent, rows)
+}
+
+// The same with a floor, the slowest pace R/T.
+#[no_mangle]
+pub extern "C" fn vakrhildo_plan_floor(
+    arrivals: &[u32],
+    deadlines: &[u32],
+    operations: &[u32],
+    reference: u32,
+    p: u32,
+    q: u32,
+    r: u32,
+    t: u32,
+    rows: &mut [u32],
+) -> Reply
+    ensures { λ reply. ⌜ PlanOutcome (record { arrivals = now (arrivals .entry); deadlines = now (deadlines .entry); operations = now (operations .entry); terms = record { reference = reference; p = p; q = q }; floor = Slowest r t; buffer = now (rows .entry) }) (reply .number) (reply .place) (reply .blocks) (now (rows .exit)) ⌝ }
+{
+    let floor = Floor::Slowest(r, t);
+    planned(
+        arrivals,
+        deadlines,
+        operations,
+        Roll { reference, p, q },
+        floor,
+        rows,
+    )
 }
 
 // Plans the list in a roll, by all the rules, file rules first.

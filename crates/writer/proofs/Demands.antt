@@ -4,6 +4,7 @@
 -- Nothing is assumed.
 use Prim.Native.Nat.{ℕ, _+_, _*_, _≤_, _<_}
 use mathlib.Core.Path.{_≡_, sym, _∙_, ap, subst}
+use mathlib.Core.Bool.{true}
 use mathlib.Core.List.{List, _++_}
 use mathlib.Core.Logic.{_↔_}
 use lib.ListN.{length, getD, take, drop}
@@ -11,11 +12,14 @@ use denote.Ref.{RefT}
 use Rattle.trials.specs.Rules.{Accepted}
 use Rattle.rules.specs.Offsets.{Input, reportsOf, fastestOf}
 use Rattle.rules.specs.Rules.{planRules}
+use Rattle.rules.specs.declared.Floor.{Floor}
+use Rattle.rules.specs.declared.Floor.the-variants.{Absent}
 use Rattle.planner.specs.Outcome.{PlanOutcome}
 use Rattle.planner.proofs.Outcomes.{goes-on}
-use Rattle.roll.specs.Format.{countOf, referenceOf, pOf, qOf, backOf, fileRules, recordsAt, recordsOf, columnIn, inputOf, RollOutcome}
-use Rattle.roll.specs.Answers.{NumbersIs, PartFrom, PartIs}
+use Rattle.roll.specs.Format.{mark, endsIn, floorOf, countOf, referenceOf, pOf, qOf, termsOf, backOf, fileRules, recordsAt, recordsOf, columnIn, inputIn, inputOf, RollOutcome}
+use Rattle.roll.specs.Answers.{floorNumbers, NumbersIs, PartFrom, PartIs}
 use Rattle.roll.specs.declared.Numbers.{Numbers}
+use Rattle.roll.proofs.Marks.{without-floor, plain-mark}
 use Rattle.roll.proofs.Demands as Roll
 use Rattle.writer.specs.Bytes.{Listing, rollLong, rollBytes, shown, ReadsBack, handed, ByteString}
 use Rattle.writer.specs.Writing.{WriteOutcome, Writable}
@@ -64,18 +68,21 @@ module _ (x : Listing) (before : List ℕ) (at : ℕ) where
     abbrev roll : List ℕ
     roll = take (at + bytes) after
 
-    -- In the buffer up to the roll's end the reader finds no fault, and the reference, the count, P, Q and the three lists that went in.
+    no-floor : floorOf roll ≡ Absent
+    no-floor = without-floor roll (plain-mark roll (b .marked)) .1
+
+    -- In the buffer up to the roll's end the reader finds no fault, no floor, and the reference, the count, P, Q and the three lists that went in.
     pub what-is-written-reads-back :
-        Accepted (fileRules roll) × (referenceOf roll ≡ x .terms .reference) × (countOf roll ≡ length (x .arrivals)) × (pOf roll ≡ x .terms .p) × (qOf roll ≡ x .terms .q)
+        Accepted (fileRules roll) × (floorOf roll ≡ Absent) × (referenceOf roll ≡ x .terms .reference) × (countOf roll ≡ length (x .arrivals)) × (pOf roll ≡ x .terms .p) × (qOf roll ≡ x .terms .q)
         × (columnIn (recordsOf roll) (countOf roll) 0 ≡ x .arrivals) × (columnIn (recordsOf roll) (countOf roll) 4 ≡ x .deadlines) × (columnIn (recordsOf roll) (countOf roll) 8 ≡ x .operations)
     what-is-written-reads-back =
         let e = b .list-is in
-        (b .accepted, ap (λ (y : Listing). y .terms .reference) e, b .count-is, ap (λ (y : Listing). y .terms .p) e, ap (λ (y : Listing). y .terms .q) e, ap (λ (y : Listing). y .arrivals) e, ap (λ (y : Listing). y .deadlines) e, ap (λ (y : Listing). y .operations) e)
+        (b .accepted, no-floor, ap (λ (y : Listing). y .terms .reference) e, b .count-is, ap (λ (y : Listing). y .terms .p) e, ap (λ (y : Listing). y .terms .q) e, ap (λ (y : Listing). y .arrivals) e, ap (λ (y : Listing). y .deadlines) e, ap (λ (y : Listing). y .operations) e)
 
     -- `read` shows them: its numbers are these, and the part that it hands back begins at the place.
     pub the-reader-shows-it :
         (n : Numbers) → NumbersIs roll n →
-        n ≡ record { refusal = 0; trailer = record { count = length (x .arrivals); terms = x .terms }; at = at; size = 12 * length (x .arrivals) }
+        n ≡ record { refusal = 0; trailer = record { count = length (x .arrivals); terms = x .terms }; floor = floorNumbers Absent; at = at; size = 12 * length (x .arrivals) }
     the-reader-shows-it = Shown.numbers-shown x before at place bytes after o b
 
     pub and-hands-back-its-records : (s part : RefT (List ℕ)) → s .now ≡ roll → PartIs s part → PartFrom s at (12 * length (x .arrivals)) part
@@ -86,7 +93,7 @@ module _ (x : Listing) (before : List ℕ) (at : ℕ) where
         (rows : List ℕ) (number place′ blocks : ℕ) (rows′ : List ℕ) →
         RollOutcome roll rows number place′ blocks rows′ ↔ PlanOutcome (handed x rows) number place′ blocks rows′
     planning-the-roll-is-planning-the-list rows number place′ blocks rows′ =
-        let list : inputOf roll rows ≡ handed x rows = ap (λ (y : Listing). handed y rows) (b .list-is) in
+        let list : inputOf roll rows ≡ handed x rows = ap (λ (f : Floor). inputIn (recordsOf roll) (countOf roll) (termsOf roll) f rows) no-floor ∙ ap (λ (y : Listing). handed y rows) (b .list-is) in
         let y = inputOf roll rows in (
           λ r. subst (λ (z : Input). PlanOutcome z number place′ blocks rows′) list (Roll.the-answer-for-the-list roll rows number place′ blocks rows′ r (b .accepted)),
           λ p. goes-on (reportsOf y) (fastestOf y) rows (fileRules roll) (planRules y) number place′ blocks rows′ (record { accepted = b .accepted }) (subst (λ (z : Input). PlanOutcome z number place′ blocks rows′) (sym list) p),
@@ -97,18 +104,18 @@ pub no-two-lists-are-written-alike : (s : List ℕ) (x y : Listing) → ReadsBac
 no-two-lists-are-written-alike s x y a b = sym (a .list-is) ∙ b .list-is
 
 -- ---- What was read writes back
--- For every string of bytes that the reader accepts, packing what was read gives its bytes again, from the first record on;
-pub what-was-read-packs-again-behind-its-preface : (s : List ℕ) → ByteString s → Accepted (fileRules s) → rollBytes (shown s) ≡ drop (recordsAt s) s
-what-was-read-packs-again-behind-its-preface s bytes a = Back.writes-back-behind s bytes (record { accepted = a })
+-- For every string of bytes that the reader accepts and that is marked AQ, packing what was read gives its bytes again, from the first record on;
+pub what-was-read-packs-again-behind-its-preface : (s : List ℕ) → ByteString s → endsIn s mark ≡ true → Accepted (fileRules s) → rollBytes (shown s) ≡ drop (recordsAt s) s
+what-was-read-packs-again-behind-its-preface s bytes m a = Back.writes-back-behind s bytes m (record { accepted = a })
 
 -- without a preface, all of them.
-pub what-was-read-packs-again : (s : List ℕ) → ByteString s → Accepted (fileRules s) → length s ≡ backOf s → rollBytes (shown s) ≡ s
-what-was-read-packs-again s bytes a e = Back.writes-back s bytes (record { accepted = a }) e
+pub what-was-read-packs-again : (s : List ℕ) → ByteString s → endsIn s mark ≡ true → Accepted (fileRules s) → length s ≡ backOf s → rollBytes (shown s) ≡ s
+what-was-read-packs-again s bytes m a e = Back.writes-back s bytes m (record { accepted = a }) e
 
 -- And where it has at most 1,024 reports, `write` puts exactly these bytes into every buffer, from every place that leaves room for them.
 pub what-was-read-writes-back :
-    (s : List ℕ) → ByteString s → Accepted (fileRules s) → length s ≡ backOf s → countOf s ≤ 1024 →
+    (s : List ℕ) → ByteString s → endsIn s mark ≡ true → Accepted (fileRules s) → length s ≡ backOf s → countOf s ≤ 1024 →
     (before : List ℕ) (at : ℕ) → at + length s ≤ length before →
     (number place bytes : ℕ) (after : List ℕ) → WriteOutcome (shown s) before at number place bytes after →
     (number ≡ 0) × (place ≡ 0) × (bytes ≡ length s) × (after ≡ take at before ++ (s ++ drop (at + length s) before))
-what-was-read-writes-back s bytes a e few before at room number place n after o = Shown.written-again s bytes (record { accepted = a }) e few before at room number place n after o
+what-was-read-writes-back s bytes m a e few before at room number place n after o = Shown.written-again s bytes m (record { accepted = a }) e few before at room number place n after o

@@ -2,7 +2,9 @@
 -- Assumes nothing.
 use Prim.Native.Nat.{ℕ, zero, suc, _+_, _*_, _-_, _≤_, _<_}
 use mathlib.Core.Path.{_≡_, refl, sym, _∙_, ap, ap₂, subst}
+use mathlib.Core.Bool.{true}
 use mathlib.Core.List.{List, _++_}
+use mathlib.Core.Logic.{inl}
 use native.Mathlib.Omega.{arith}
 use lib.ListN.{length, getD, take, drop, length-append}
 use lib.Seq.{take-at, drop-at}
@@ -12,7 +14,8 @@ use Rattle.lists.proofs.Putting.{put-front}
 use Rattle.trials.proofs.Passing.{Passed, not-given, more, none}
 use Rattle.fraction.proofs.Scale.{cases}
 use Rattle.rules.specs.declared.Roll.{Roll}
-use Rattle.roll.specs.Format.{u16At, u32At, Marked, backOf, countOf, referenceOf, pOf, qOf, termsOf, fileRules, recordsAt, recordsOf, columnIn}
+use Rattle.roll.specs.Format.{u16At, u32At, mark, endsIn, trailerLong, backOf, countOf, referenceOf, pOf, qOf, termsOf, fileRules, recordsAt, recordsOf, columnIn}
+use Rattle.roll.proofs.Marks.{ends-in, without-floor, plain-mark}
 use Rattle.writer.specs.Bytes.{Listing, recordBytes, recordsUpTo, recordsBytes, trailerBytes, trailerFor, rollLong, rollBytes, shown, ReadsBack}
 use Rattle.writer.proofs.LittleEndian.{two-bytes, four-bytes, byte-behind, u16-behind, u32-behind, u32-before}
 use Rattle.writer.proofs.Records.{Packable, length-records, records-long, roll-long}
@@ -80,15 +83,19 @@ module _ (x : Listing) (p : Packable x) (preface : List ℕ) where
       terms : ℕ → ℕ → ℕ → Roll
       terms r u v = record { reference = r; p = u; q = v }
 
-  mark-back : Marked s
-  mark-back = record { a = byte-last (length s - 2) 14 (omega (arith, long)); q = byte-last (length s - 1) 15 (omega (arith, long)) }
+  mark-back : endsIn s mark ≡ true
+  mark-back = ends-in s mark (byte-last (length s - 2) 14 (omega (arith, long))) (byte-last (length s - 1) 15 (omega (arith, long)))
+
+  -- so the trailer is one of 16 bytes
+  trailer-back : trailerLong s ≡ 16
+  trailer-back = without-floor s (plain-mark s mark-back) .0
 
   -- no file rule is given
   passed-back : Passed (fileRules s)
   passed-back =
-      more (not-given (λ h. omega (arith, h, long)))
-      (more (not-given (λ h. h mark-back))
-      (more (not-given (λ h. h (back-back ∙ sym (ap rollLong count-back))))
+      more (not-given (λ h. omega (arith, h, long, trailer-back)))
+      (more (not-given (λ h. h (record { is = inl mark-back })))
+      (more (not-given (λ h. h (back-back ∙ sym (ap₂ (λ (a b : ℕ). a + 12 * b) trailer-back count-back))))
       (more (not-given (λ h. omega (arith, h, long, records-long x, back-back))) none)))
 
   -- the records stand behind the preface
@@ -125,7 +132,7 @@ module _ (x : Listing) (p : Packable x) (preface : List ℕ) where
 
   -- A roll that is written reads back as the list that went in, behind any preface.
   pub reads-back : ReadsBack s x
-  reads-back = record { accepted = passed-back .accepted; count-is = count-back; list-is = list-back }
+  reads-back = record { accepted = passed-back .accepted; marked = mark-back; count-is = count-back; list-is = list-back }
 
 -- ---- in a buffer
 -- A roll that is put into a buffer reads back from the buffer up to the roll's end: what stands before the place is the preface.

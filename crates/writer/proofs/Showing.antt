@@ -2,6 +2,7 @@
 -- Assumes nothing.
 use Prim.Native.Nat.{ℕ, _+_, _*_, _-_, _≤_}
 use mathlib.Core.Path.{_≡_, refl, sym, _∙_, ap, subst, subst₂}
+use mathlib.Core.Bool.{true}
 use mathlib.Core.List.{List, _++_}
 use native.Mathlib.Omega.{arith}
 use lib.ListN.{length, take, drop}
@@ -11,10 +12,13 @@ use Rattle.lists.proofs.Putting.{put-long}
 use Rattle.trials.specs.Rules.{Accepted}
 use Rattle.trials.proofs.Passing.{Passed}
 use Rattle.trials.proofs.Single.{not-refused}
-use Rattle.roll.specs.Format.{countOf, backOf, fileRules, recordsAt, recordsLong}
-use Rattle.roll.specs.Answers.{NumbersIs, PartFrom, PartIs}
+use Rattle.rules.specs.declared.Floor.{Floor}
+use Rattle.rules.specs.declared.Floor.the-variants.{Absent}
+use Rattle.roll.specs.Format.{mark, endsIn, countOf, backOf, fileRules, recordsAt, recordsLong}
+use Rattle.roll.specs.Answers.{floorNumbers, NumbersIs, PartFrom, PartIs}
 use Rattle.roll.specs.declared.Numbers.{Numbers}
-use Rattle.roll.proofs.FileRules.{FileIs, file-is}
+use Rattle.roll.proofs.Marks.{without-floor, plain-mark}
+use Rattle.roll.proofs.FileRules.{plain-file}
 use Rattle.roll.proofs.OneResult.{one-numbers}
 use Rattle.writer.specs.Bytes.{Listing, rollBytes, shown, ReadsBack, ByteString}
 use Rattle.writer.specs.Writing.{WriteOutcome, Writable}
@@ -38,7 +42,7 @@ module _ (x : Listing) (before : List ℕ) (at place bytes : ℕ) (after : List 
 
   begins : recordsAt roll ≡ at
   begins =
-      let f : FileIs roll = file-is roll (record { accepted = b .accepted }) in
+      let f = plain-file roll (b .marked) (record { accepted = b .accepted }) in
       omega (arith, roll-ends .0, roll-ends .1, f .back-is, b .count-is)
 
   long : recordsLong roll ≡ 12 * n
@@ -47,12 +51,13 @@ module _ (x : Listing) (before : List ℕ) (at place bytes : ℕ) (after : List 
   -- the reader's numbers
   pub numbers-shown :
       (m : Numbers) → NumbersIs roll m →
-      m ≡ record { refusal = 0; trailer = record { count = length (x .arrivals); terms = x .terms }; at = at; size = 12 * length (x .arrivals) }
+      m ≡ record { refusal = 0; trailer = record { count = length (x .arrivals); terms = x .terms }; floor = floorNumbers Absent; at = at; size = 12 * length (x .arrivals) }
   numbers-shown m is =
       one-numbers roll m _ is (record {
         accepted = λ _. record {
           refusal-is = refl;
           trailer-is = record { count-is = sym (b .count-is); terms-is = sym (ap (λ (y : Listing). y .terms) (b .list-is)) };
+          floor-is = sym (ap (λ (f : Floor). floorNumbers f) (without-floor roll (plain-mark roll (b .marked)) .1));
           at-is = sym begins;
           size-is = sym long;
         };
@@ -65,17 +70,17 @@ module _ (x : Listing) (before : List ℕ) (at place bytes : ℕ) (after : List 
       subst₂ (λ (from size : ℕ). PartFrom s from size part) (ap recordsAt e ∙ begins) (ap recordsLong e ∙ long)
       (is .accepted (subst (λ (t : List ℕ). Accepted (fileRules t)) (sym e) (b .accepted)))
 
--- ---- a roll that was read, without preface and of at most 1,024 reports
-module _ (s : List ℕ) (bytes : ByteString s) (p : Passed (fileRules s)) (alone : length s ≡ backOf s) (few : countOf s ≤ 1024) (before : List ℕ) (at : ℕ) (room : at + length s ≤ length before) where
+-- ---- a roll marked AQ that was read, without preface and of at most 1,024 reports
+module _ (s : List ℕ) (bytes : ByteString s) (marked : endsIn s mark ≡ true) (p : Passed (fileRules s)) (alone : length s ≡ backOf s) (few : countOf s ≤ 1024) (before : List ℕ) (at : ℕ) (room : at + length s ≤ length before) where
   abbrev x : Listing
   x = shown s
 
   -- can be written,
   writable : Writable x before at
   writable =
-      let k = shown-packable s bytes p in
-      let e : length (rollBytes x) ≡ length s = ap length (writes-back s bytes p alone) in
-      let f : FileIs s = file-is s p in
+      let k = shown-packable s bytes marked p in
+      let e : length (rollBytes x) ≡ length s = ap length (writes-back s bytes marked p alone) in
+      let f = plain-file s marked p in
       record {
         as-many-deadlines = k .even .deadlines-long;
         as-many-operations = k .even .operations-long;
@@ -89,7 +94,7 @@ module _ (s : List ℕ) (bytes : ByteString s) (p : Passed (fileRules s)) (alone
   again : (place n : ℕ) (after : List ℕ) → WriteOutcome (shown s) before at 0 place n after → (place ≡ 0) × (n ≡ length s) × (after ≡ take at before ++ (s ++ drop (at + length s) before))
   unfolding WriteOutcome
   again place n after o =
-      let e = writes-back s bytes p alone in
+      let e = writes-back s bytes marked p alone in
       (o .1, inside x before at n (record { accepted = o .0 }) (o .2) .0 ∙ ap length e, o .2 .written ∙ ap (λ (t : List ℕ). take at before ++ (t ++ drop (at + length t) before)) e)
 
   pub written-again :

@@ -1,31 +1,24 @@
--- What was read writes back: packing what a roll shows gives that roll's bytes again, from its first record on.
+-- What was read writes back: packing what a roll marked AQ shows gives that roll's bytes again, from its first record on.
 -- Assumes nothing.
 use Prim.Native.Nat.{ℕ, zero, suc, _+_, _*_, _-_, _/_, _%_, _^_, _≤_, _<_}
 use mathlib.Core.Path.{_≡_, refl, sym, _∙_, ap, ap₂}
+use mathlib.Core.Bool.{true}
 use mathlib.Core.List.{List, [], _∷_, _++_}
-use mathlib.Core.Logic.{⊎-elim}
 use native.Mathlib.Omega.{arith}
 use native.Mathlib.Numerals.{add-one}
 use lib.ListN.{length, getD, take, drop, length-drop}
 use lib.Seq.{take-add, drop-drop, drop-cons, take-all, length-take-le, getD-take, getD-drop}
 use Rattle.lists.proofs.Filling.{getD-listed}
-use Rattle.trials.proofs.Passing.{Passed, Quiet, finding, untrue}
-use Rattle.roll.specs.Format.{mark, u16At, u32At, Marked, markRule, backOf, countOf, referenceOf, pOf, qOf, termsOf, fileRules, recordsAt, recordsOf, columnIn}
+use Rattle.trials.proofs.Passing.{Passed}
+use Rattle.roll.specs.Format.{mark, endsIn, u16At, u32At, backOf, countOf, referenceOf, pOf, qOf, termsOf, fileRules, recordsAt, recordsOf, columnIn}
 use Rattle.roll.specs.declared.Trailer.{Trailer}
-use Rattle.roll.proofs.FileRules.{FileIs, file-is}
+use Rattle.roll.proofs.Marks.{its-bytes}
+use Rattle.roll.proofs.FileRules.{FileIs, plain-file}
 use Rattle.roll.proofs.Rolls.{column-long}
-use Rattle.roll.proofs.OneResult.{dec-marked}
 use Rattle.writer.specs.Bytes.{le16, le32, recordBytes, recordsUpTo, trailerBytes, rollBytes, shown, ByteString}
 use Rattle.writer.specs.Inside.{RecordsFit}
 use Rattle.writer.proofs.Records.{Packable}
 use Rattle.writer.proofs.LittleEndian.{bytes-two}
-
--- what an accepted file's mark is
-marked-is : (s : List ℕ) → Passed (fileRules s) → Marked s
-unfolding dec-marked
-marked-is s p =
-    let q : Quiet (markRule s) = search finding depth 40 in
-    ⊎-elim (λ (m : Marked s). m) (λ n. absurd (untrue q n)) (dec-marked {s = s} .decided)
 
 -- ---- parts of a string
 module _ (s : List ℕ) where
@@ -98,21 +91,21 @@ module _ (part : List ℕ) (bytes : ByteString part) (n : ℕ) (long : length pa
   records-fit = record { each = λ i h. record { arrival-fits = column-fits i 0 h (omega arith); deadline-fits = column-fits i 4 h (omega arith); operations-fit = column-fits i 8 h (omega arith) } }
 
 -- ---- the trailer, and the whole
-module _ (s : List ℕ) (bytes : ByteString s) (f : Passed (fileRules s)) where
+module _ (s : List ℕ) (bytes : ByteString s) (marked : endsIn s mark ≡ true) (f : Passed (fileRules s)) where
   abbrev count : ℕ
   count = countOf s
 
   abbrev trailer : Trailer
   trailer = record { count = countOf s; terms = termsOf s }
 
-  file : FileIs s
-  file = file-is s f
+  file : FileIs s 16
+  file = plain-file s marked f
 
   trailer-again : trailerBytes trailer ≡ take 16 (drop (length s - 16) s)
   trailer-again =
       let at = length s - 16 in
       let l = file .long in
-      let m = marked-is s f in
+      let m = its-bytes s mark marked in
       let b = le32 (16 + 12 * count) in
       let r = le32 (referenceOf s) in
       let c = le16 count in
@@ -121,7 +114,7 @@ module _ (s : List ℕ) (bytes : ByteString s) (f : Passed (fileRules s)) where
       let next : length s - 1 ≡ length s - 2 + 1 = omega (arith, l) in
       let there : length s - 2 ≡ at + 14 = omega (arith, l) in
       let last : mark ≡ take 2 (drop (at + 14) s) =
-      ap₂ (λ (x y : ℕ). x ∷ y ∷ []) (sym (m .a)) (sym (m .q) ∙ ap (λ (k : ℕ). getD s k 0) next)
+      ap₂ (λ (x y : ℕ). x ∷ y ∷ []) (sym (m .0)) (sym (m .1) ∙ ap (λ (k : ℕ). getD s k 0) next)
       ∙ pair-of s (length s - 2) (omega (arith, l)) ∙ ap (λ (k : ℕ). take 2 (drop k s)) there in
       glued s 14 2 at (b ++ r ++ c ++ p ++ q) mark
       (glued s 12 2 at (b ++ r ++ c ++ p) q

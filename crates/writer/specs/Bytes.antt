@@ -2,12 +2,14 @@
 -- Assumes nothing.
 use Prim.Native.Nat.{ℕ, zero, suc, _+_, _*_, _/_, _%_, _<_}
 use mathlib.Core.Path.{_≡_}
+use mathlib.Core.Bool.{true}
 use mathlib.Core.List.{List, [], _∷_, _++_}
 use lib.ListN.{length, getD}
 use Rattle.trials.specs.Rules.{Accepted}
 use Rattle.rules.specs.Offsets.{Input}
 use Rattle.rules.specs.declared.Roll.{Roll}
-use Rattle.roll.specs.Format.{mark, countOf, fileRules, inputOf}
+use Rattle.rules.specs.declared.Floor.the-variants.{Absent}
+use Rattle.roll.specs.Format.{mark, endsIn, countOf, fileRules, inputOf}
 use Rattle.roll.specs.declared.Trailer.{Trailer}
 
 -- What a roll carries: the three lists, and the terms that they come with (reference, P and Q).
@@ -59,15 +61,16 @@ rollBytes x = recordsBytes x ++ trailerBytes (trailerFor x)
 abbrev pub shown : List ℕ → Listing
 shown s = let x : Input = inputOf s [] in record { arrivals = x .arrivals; deadlines = x .deadlines; operations = x .operations; terms = x .terms }
 
--- A roll reads back as a list: no file rule is given; and the count, the three lists, the reference, P and Q that it shows are those of the list.
+-- A roll reads back as a list: no file rule is given; its mark is AQ, so it has no floor; and the count, the three lists, the reference, P and Q that it shows are those of the list.
 pub record ReadsBack (s : List ℕ) (x : Listing) : Type 0 where
   pub accepted : Accepted (fileRules s)
+  pub marked : endsIn s mark ≡ true
   pub count-is : countOf s ≡ length (x .arrivals)
   pub list-is : shown s ≡ x
 
--- What the planner is handed with a list: a row buffer.
+-- What the planner is handed with a list: no floor, and a row buffer.
 abbrev pub handed : Listing → List ℕ → Input
-handed x rows = record { arrivals = x .arrivals; deadlines = x .deadlines; operations = x .operations; terms = x .terms; buffer = rows }
+handed x rows = record { arrivals = x .arrivals; deadlines = x .deadlines; operations = x .operations; terms = x .terms; floor = Absent; buffer = rows }
 
 -- A string of bytes.
 pub record ByteString (s : List ℕ) : Type 0 where

@@ -1,4 +1,4 @@
--- `planner::plan` meets its contract: rules 1 to 4, and then the rules of the reports.
+-- `planner::plan` meets its contract: the rules of the whole list, and then those of the reports.
 -- Assumes nothing.
 use borrow.Author.Needs.{needs}
 use Rattle.trials.specs.Rules.{Refuses}
@@ -15,7 +15,7 @@ use Rattle.planner.proofs.plan.Tie as tie
 abbrev input : tie.After-count-rules → Input
 input c =
     let a = c .before .before .before .before .before .args in
-    record { arrivals = a .arrivals .now; deadlines = a .deadlines .now; operations = a .operations .now; terms = a .terms; buffer = a .rows .now }
+    record { arrivals = a .arrivals .now; deadlines = a .deadlines .now; operations = a .operations .now; terms = a .terms; floor = a .floor; buffer = a .rows .now }
 
 returns : tie.Need-returns
 returns c =
@@ -32,7 +32,7 @@ settle-readings-requires : tie.Need-settle-readings-requires
 settle-readings-requires c κs =
     let t = c .before in
     let x = input (t .before .before) in
-    (sized-lists (x .arrivals) (x .deadlines) (x .operations) (x .buffer) (x .terms) (quiet t), good-terms (x .arrivals) (x .deadlines) (x .operations) (x .buffer) (x .terms) (quiet t))
+    (sized-lists (x .arrivals) (x .deadlines) (x .operations) (x .buffer) (x .terms) (x .floor) (quiet t), good-terms (x .arrivals) (x .deadlines) (x .operations) (x .buffer) (x .terms) (x .floor) (quiet t))
 
 returns-2 : tie.Need-returns-2
 returns-2 c =

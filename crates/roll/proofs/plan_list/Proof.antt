@@ -1,4 +1,4 @@
--- `roll::plan_list` meets its contract: rules 1 to 4 of the trailer's numbers, and then the list's plan.
+-- `roll::plan_list` meets its contract: the rules of the whole list, of the trailer's numbers, and then the list's plan.
 -- Assumes nothing.
 use borrow.Author.Needs.{needs}
 use Rattle.trials.specs.Rules.{Refuses}
@@ -15,7 +15,7 @@ use Rattle.roll.proofs.plan_list.Tie as tie
 abbrev entry : tie.After-count-rules → tie.Start
 entry c = c .before .before .before .before .before
 
-has : (c : tie.After-count-rules) → FileHas (entry c .args .file .now) (entry c .args .trailer)
+has : (c : tie.After-count-rules) → FileHas (entry c .args .file .now) (entry c .args .ending)
 has c = file-has (entry c .pre)
 
 -- where they are silent
@@ -23,21 +23,21 @@ quiet : (c : tie.After-enum-told) → Passed (overallRules (inputOf (entry (c .b
 quiet c =
     let t = c .before .before in
     let a = entry t .args in
-    passed (counted (a .file .now) (a .rows .now) (a .trailer) (has t) (t .count-rules .ensures)) (c .enum-told .given .1)
+    passed (counted (a .file .now) (a .rows .now) (a .ending) (has t) (t .count-rules .ensures)) (c .enum-told .given .1)
 
 returns : tie.Need-returns
 returns c =
     let t = c .before .before .before in
     let a = entry t .args in
-    let r : Refuses (overallRules (inputOf (a .file .now) (a .rows .now))) (c .before .tried .given .0 .0) = refuses (counted (a .file .now) (a .rows .now) (a .trailer) (has t) (t .count-rules .ensures)) (c .before .tried .given .1) in
-    (refused-list (a .file .now) (a .rows .now) (a .trailer) (has t) r, r .numbered)
+    let r : Refuses (overallRules (inputOf (a .file .now) (a .rows .now))) (c .before .tried .given .0 .0) = refuses (counted (a .file .now) (a .rows .now) (a .ending) (has t) (t .count-rules .ensures)) (c .before .tried .given .1) in
+    (refused-list (a .file .now) (a .rows .now) (a .ending) (has t) r, r .numbered)
 
 plan-records-requires : tie.Need-plan-records-requires
 plan-records-requires c κs =
     let told = c .before .before in
     let t = told .before .before in
     let a = entry t .args in
-    (part-long (a .file .now) (a .rows .now) (a .trailer) (has t) _ (c .before .part-of .ensures .accepted (has t .passed .accepted) .bytes), few-records (a .file .now) (a .rows .now) (a .trailer) (has t) (quiet told))
+    (part-long (a .file .now) (a .rows .now) (a .ending) (has t) _ (c .before .part-of .ensures .accepted (has t .passed .accepted) .bytes), few-records (a .file .now) (a .rows .now) (a .ending) (has t) (quiet told))
 
 returns-2 : tie.Need-returns-2
 returns-2 c =
@@ -45,7 +45,7 @@ returns-2 c =
     let r = p .before .before in
     let t = r .before .before .before in
     let a = entry t .args in
-    (planned-roll (a .file .now) (a .rows .now) (a .trailer) (has t) _ _ _ _ _ (r .part-of .ensures .accepted (has t .passed .accepted) .bytes) (p .plan-records .ensures .0), p .plan-records .ensures .1)
+    (planned-roll (a .file .now) (a .rows .now) (a .ending) (has t) _ _ _ _ _ (r .part-of .ensures .accepted (has t .passed .accepted) .bytes) (p .plan-records .ensures .0), p .plan-records .ensures .1)
 
 pub plan-list-spec : {M : Type 1} → statement M
 plan-list-spec =

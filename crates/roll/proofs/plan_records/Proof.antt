@@ -22,7 +22,7 @@ returns c =
     let p = c .before .before in
     let r = p .before .before .before .before .before .before in
     let a = entry r .args in
-    (same-lists _ _ _ (columnIn (a .part .now) (a .count) 0) (columnIn (a .part .now) (a .count) 4) (columnIn (a .part .now) (a .count) 8) (a .terms) (a .rows .now) _ _ _ _ (first r .column .ensures) (second r .column2 .ensures) (r .column3 .ensures) (p .plan .ensures .0), p .plan .ensures .1)
+    (same-lists _ _ _ (columnIn (a .part .now) (a .count) 0) (columnIn (a .part .now) (a .count) 4) (columnIn (a .part .now) (a .count) 8) (a .terms) (a .floor) (a .rows .now) _ _ _ _ (first r .column .ensures) (second r .column2 .ensures) (r .column3 .ensures) (p .plan .ensures .0), p .plan .ensures .1)
 
 pub plan-records-spec : {M : Type 1} → statement M
 plan-records-spec =

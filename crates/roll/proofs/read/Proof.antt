@@ -1,5 +1,5 @@
 -- `roll::read` meets its contract: a walk of its MIR, by hand. A `Reading` is made, in the result's local, of what two calls return; which two, `read_trailer`'s answer says. All that the proof knows of the five callees is that each meets its contract.
--- A `&[u8]` is Copy, so what file owns is had anew for each call, and once more at exit (`lends`). The token goes to each callee and comes back. A trailer and a trailer's answer are plain: what they own is made wherever it is asked.
+-- A `&[u8]` is Copy, so what file owns is had anew for each call, and once more at exit (`lends`). The token goes to each callee and comes back. What a roll's end says and a trailer's answer are plain: what they own is made wherever it is asked.
 -- The walk up to the `switch` holds for any answer. There it goes by cases on the answer (`matched`): the tag is then a numeral, and what is left computes to the arm that runs.
 -- The slice that a callee returns is held in a local whose type has the lifetime `erased`: what it owns does not say the lifetime's name.
 -- Assumes nothing.
@@ -44,13 +44,13 @@ use denote.Exit.{yes}
 use Rattle.roll.specs.Answers.{TrailerAnswerIs, NumbersIs, PartFrom, PartIs, refusalIn, numbersRefused}
 use Rattle.roll.specs.declared.Numbers.{Numbers}
 use Rattle.roll.specs.declared.Reading.{Reading}
-use Rattle.roll.specs.declared.Trailer.{Trailer}
+use Rattle.roll.specs.declared.Ending.{Ending}
 use Rattle.roll.specs.declared.TrailerAnswer.{TrailerAnswer}
 use Rattle.roll.specs.declared.TrailerAnswer.the-variants.{Is as There, Not}
 use Rattle.roll.proofs.FileRules.{refuses-file, refused-part}
 use Rattle.roll.proofs.HandsBack.{refused-numbers}
 use Rattle.roll.proofs.Walking.{met, asks, lends}
-use Rattle.roll.proofs.Trailer as B
+use Rattle.roll.proofs.Ending as B
 use Rattle.roll.proofs.TrailerAnswer as D
 use Rattle.roll.proofs.Numbers as N
 use Rattle.roll.proofs.Reading as T
@@ -95,9 +95,9 @@ module _ {M : Type 1} (𝓤 : URA M) (H : Heap 𝓤) (A : Atoms 𝓤) (mem : Mem
 abbrev val : TrailerAnswer → Val
 val = EL.val D.the-type D.Laws.the-laws
 
--- a trailer in an answer has its own relation, by the answer's
-trailer-is : (t : Trailer) → Is D.the-row (There t) (val (There t) ∷ []) → Is B.the-row t (B.Laws.lowered t ∷ [])
-trailer-is t is = EL.owed D.the-type D.Laws.the-laws (There t) _ is .0
+-- what a roll's end says, in an answer, has its own relation, by the answer's
+ending-is : (t : Ending) → Is D.the-row (There t) (val (There t) ∷ []) → Is B.the-row t (B.Laws.lowered t ∷ [])
+ending-is t is = EL.owed D.the-type D.Laws.the-laws (There t) _ is .0
 
 -- the arm of a refused trailer
 abbrev refusing : Body
@@ -135,11 +135,11 @@ module _ {M : Type 1} (𝓤 : URA M) (H : Heap 𝓤) (A : Atoms 𝓤) (W : Given
   abbrev Token : Item 𝓤
   Token = raw (alive 𝓤 H A read.signature (κ, tt) (q, tt))
 
-  -- what each callee's triple binds outside: the file as it is, and the trailer or the answer
+  -- what each callee's triple binds outside: the file as it is, and what the roll's end says or the answer
   abbrev to-file : ReadTrailer 𝓤 H A mem run .Ghost
   to-file = (((κ, tt), (q, tt), tt, (s, tt), (v ∷ [], tt)), tt)
 
-  abbrev to-both : Trailer → NumbersOf 𝓤 H A mem run .Ghost
+  abbrev to-both : Ending → NumbersOf 𝓤 H A mem run .Ghost
   to-both t = (((κ, tt), (q, tt), tt, (s, (t, tt)), (v ∷ [], (B.Laws.lowered t ∷ [], tt))), tt)
 
   abbrev to-answer : TrailerAnswer → NumbersRefused 𝓤 H A mem run .Ghost
@@ -149,8 +149,8 @@ module _ {M : Type 1} (𝓤 : URA M) (H : Heap 𝓤) (A : Atoms 𝓤) (W : Given
   lends-it : ent 𝓤 (⋆ 𝓤 H A (Token ∷ ‵ Own ∷ [])) (sep 𝓤 (ReadTrailer 𝓤 H A mem run .pre to-file) (sem 𝓤 H A Own))
   lends-it = lends 𝓤 H A W (alive 𝓤 H A read.signature (κ, tt) (q, tt)) κ s v ftrue (emp 𝓤) (id⊢ 𝓤 _) (id⊢ 𝓤 _)
 
-  -- and with the trailer, where it is there
-  lends-both : (t : Trailer) → Is B.the-row t (B.Laws.lowered t ∷ []) → TrailerAnswerIs (now s) (There t)
+  -- and with what the roll's end says, where its trailer is there
+  lends-both : (t : Ending) → Is B.the-row t (B.Laws.lowered t ∷ []) → TrailerAnswerIs (now s) (There t)
       → ent 𝓤 (⋆ 𝓤 H A (Token ∷ ‵ Own ∷ [])) (sep 𝓤 (NumbersOf 𝓤 H A mem run .pre (to-both t)) (sem 𝓤 H A Own))
   lends-both t is e =
       lends 𝓤 H A W (alive 𝓤 H A read.signature (κ, tt) (q, tt)) κ s v (fsep (B.the-row .own t (B.Laws.lowered t ∷ [])) ftrue) (fact 𝓤 (TrailerAnswerIs (now s) (There t)))
@@ -203,15 +203,15 @@ module _ {M : Type 1} (𝓤 : URA M) (H : Heap 𝓤) (A : Atoms 𝓤) (W : Given
           first ! $ switches-on ! (load ! (from ! (vrt ! refl (fld ! refl (stop !)))) (look-tag ! 12 (whole !))) $
           exec ! C Λ E (assign (place 3 []) (rvOpd (copy (place 2 (variant 0 ∷ field 1 ∷ []))))) Then $
           assigns-last ! (of-opd ! (load ! (from ! (vrt ! refl (fld ! refl (stop !)))) (look-in ! 12 (in-variant ! 0 0 refl refl (whole !))))) (from ! (stop !))
-          (init ! 10 refl (LL.lawful B.the-type B.Laws.the-laws 𝓤 H A W .typed t _ (trailer-is t is) .0)) $
+          (init ! 10 refl (LL.lawful B.the-type B.Laws.the-laws 𝓤 H A W .typed t _ (ending-is t is) .0)) $
           -- [the token; what file owns; room for _7; …; room for _4; …; _3; …; _2; …; _1; …; room for _0; …]
-          exec ! C Λ E code.Mir.t-3 (atRet E Post) $ use2 W (raw (NumbersOf 𝓤 H A mem run .pre (to-both t)) ⊛ ‵ Own) (lends-both t (trailer-is t is) e) $ split ! $
+          exec ! C Λ E code.Mir.t-3 (atRet E Post) $ use2 W (raw (NumbersOf 𝓤 H A mem run .pre (to-both t)) ⊛ ‵ Own) (lends-both t (ending-is t is) e) $ split ! $
           -- [what `numbers_of` asks; what file owns; room for _7; …; room for _4; …; _3; …; _2; …; _1; …; room for _0; …]
           asks ! fm numbers-of.ended (numbers-of.clauses 𝓤 H A mem run) (known .numbers-of-is) (to-both t) N.Laws.lowered (LL.tells N.the-type N.Laws.the-laws) (λ n. NumbersIs (now s) n) (λ _ _. id⊢ 𝓤 _)
           (and-then ! (load ! (from ! (stop !)) (look ! 14 refl)) (and-then ! (load ! (from ! (stop !)) (look ! 10 refl)) (no-more !))) (λ n is-n e-n.
           -- [what the numbers own; the token; what file owns; room for _7; …; room for _4; …; _3; …; _2; …; _1; …; room for _0; …]
           land ! (from ! (stop !)) (init ! 5 refl (LL.lawful N.the-type N.Laws.the-laws 𝓤 H A W .typed n _ is-n .0)) $
-          move ! (1 ∷ 2 ∷ []) $ use2 W (raw (PartOf 𝓤 H A mem run .pre (to-both t)) ⊛ ‵ Own) (lends-both t (trailer-is t is) e) $ split ! $
+          move ! (1 ∷ 2 ∷ []) $ use2 W (raw (PartOf 𝓤 H A mem run .pre (to-both t)) ⊛ ‵ Own) (lends-both t (ending-is t is) e) $ split ! $
           -- [what `part_of` asks; what file owns; what the numbers own; room for _7; …; _6; …; room for _5, _4; …; _3; …; _2; …; _1; …; room for _0; …]
           asks ! fm part-of.ended (part-of.clauses 𝓤 H A mem run) (known .part-of-is) (to-both t) sv (shr-slice-tells (named 0) κ u8) (λ p. PartIs s p) (λ _ _. id⊢ 𝓤 _)
           (and-then ! (load ! (from ! (stop !)) (look ! 15 refl)) (and-then ! (load ! (from ! (stop !)) (look ! 11 refl)) (no-more !))) (λ p is-p e-p.

@@ -8,7 +8,7 @@ use Rattle.roll.proofs.FileRules.{too-short, refused-trailer, found-tra
 use Rattle.roll.proofs.read_trailer.Statement.{statement}
 use Rattle.roll.proofs.read_trailer.Tie as tie
 
--- where the roll is as long as a trailer
+-- where the roll is as long as its trailer
 abbrev bytes : tie.Else1 → List ℕ
 bytes c = c .before .before .args .file .now
 

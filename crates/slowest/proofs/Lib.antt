@@ -1,0 +1,4 @@
+pub mod Sums
+pub mod Floored
+pub mod Alone
+pub mod Theorems
