@@ -22,7 +22,8 @@ use Rattle.slowest.proofs.Theorems.{runs-within, runs-allowed, plan-within, run
 use Rattle.rules.specs.Offsets.{Input, reportsOf, fastestOf, slowestOf}
 use Rattle.rules.specs.Rules.{paceRule, belowRule, earlierRules, planRule, planRules}
 use Rattle.planner.specs.Outcome.{rowAt, planIn, runningIn, WellFormed, Outcome, PlanOutcome}
-use Rattle.rules.proofs.Leaving.{good-pace, good-floor}
+use Rattle.rules.proofs.Leaving.{good-pace}
+use Rattle.rules.proofs.Floors.{good-floor}
 use Rattle.rules.proofs.Table.{works}
 use Rattle.planner.proofs.Outcomes.{positive}
 use Rattle.planner.proofs.OneResult as One

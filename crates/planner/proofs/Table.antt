@@ -28,7 +28,8 @@ use Rattle.rules.specs.declared.Roll.{Roll}
 use Rattle.rules.specs.declared.Floor.{Floor}
 use Rattle.rules.specs.declared.Floor.the-variants.{Absent, Slowest}
 use Rattle.rules.proofs.Leaving.{good-pace}
-use Rattle.rules.proofs.Table.{decided, dec-floor, dec-slower}
+use Rattle.rules.proofs.Floors.{dec-floor, dec-slower}
+use Rattle.rules.proofs.Table.{decided}
 use Rattle.planner.specs.Outcome.{rowAt, Written, PlanOutcome}
 use Rattle.planner.proofs.Outcomes.{hands-up, accepts, rejects, positive}
 

@@ -13,17 +13,12 @@ use Rattle.trials.specs.Rules.{Outside}
 use Rattle.trials.specs.Tries.{Tells}
 use Rattle.trials.proofs.Trying.{tells-as, tells-below}
 use Rattle.trials.proofs.Passing.{Passed, Quiet, finding, unfaulted, untrue}
-use Rattle.fraction.specs.Fraction.{over}
 use Rattle.fraction.proofs.Scale.{cases}
-use Rattle.fraction.proofs.Order.{split}
-use Rattle.slowest.specs.Slowest.{UpTo}
 use Rattle.critical.specs.Reports.{Reports, listOf, Working}
-use Rattle.rules.specs.Offsets.{paceOf, slowestIn}
-use Rattle.rules.specs.Rules.{lengthsRule, manyRule, shortRule, paceRule, belowRule, countRules, operationsRule, arrivalRule, deadlineRule, formRules}
+use Rattle.rules.specs.Rules.{lengthsRule, manyRule, shortRule, paceRule, countRules, operationsRule, arrivalRule, deadlineRule, formRules}
 use Rattle.rules.specs.Leaves.{Even, Sized, Paced, Fair}
 use Rattle.rules.specs.declared.Roll.{Roll}
 use Rattle.rules.specs.declared.Floor.{Floor}
-use Rattle.rules.specs.declared.Floor.the-variants.{Absent, Slowest}
 
 pub within-range : (low high x : ℕ) → (Outside low high x → ⊥) → (low ≤ x) × (x ≤ high)
 within-range low high x h = (cases x low (λ l. absurd (h (inl l))) (λ g. g), cases high x (λ l. absurd (h (inr l))) (λ g. g))
@@ -50,11 +45,6 @@ good-pace {terms} q =
     let p = within-range 1 65535 (terms .p) (λ o. untrue q (inl o)) in
     let q = within-range 1 65535 (terms .q) (λ o. untrue q (inr o)) in
     record { p-some = p .0; p-most = p .1; q-some = q .0; q-most = q .1 }
-
--- a floor that rule 17 leaves is not below P/Q
-pub good-floor : (floor : Floor) (terms : Roll) → Quiet (belowRule floor terms) → UpTo (slowestIn floor) (paceOf terms)
-good-floor Absent terms q = tt
-good-floor (Slowest r t) terms q = split (over r t) (paceOf terms) (λ l. absurd (untrue q l)) (λ g. g)
 
 pub working : (ℓ : Reports) → Quiet (operationsRule ℓ) → Working ℓ
 working ℓ q i h = within-range 1 65535 (ℓ .operations i) (unfaulted q i h) .0

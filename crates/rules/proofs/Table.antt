@@ -3,23 +3,21 @@
 use Prim.Native.Nat.{ℕ}
 use mathlib.Core.Path.{_≡_}
 use mathlib.Core.List.{List, _∷_}
-use mathlib.Core.Logic.{_⊎_, inl, inr}
 use Rattle.trials.specs.Rules.{Rule}
 use Rattle.trials.specs.Tries.{After}
 use Rattle.trials.specs.declared.Verdict.{Verdict}
 use Rattle.trials.proofs.Passing.{Passed, Quiet, finding}
 use Rattle.trials.proofs.Single.{Single, Soles, one-after, singly}
-use Rattle.trials.proofs.Deciding.{Decidable, Decides, deciding}
-use Rattle.fraction.specs.Fraction.{Fraction, _≺_}
-use Rattle.fraction.proofs.Order.{split, ≺-≼-absurd}
+use Rattle.trials.proofs.Deciding.{Decides, deciding}
+use Rattle.fraction.specs.Fraction.{Fraction}
 use Rattle.critical.specs.Reports.{Reports, Working}
 use Rattle.critical.proofs.Theorems.{one-place}
 use Rattle.rules.specs.declared.Roll.{Roll}
 use Rattle.rules.specs.declared.Floor.{Floor}
-use Rattle.rules.specs.declared.Floor.the-variants.{Absent, Slowest}
 use Rattle.rules.specs.Offsets.{Input, reportsOf}
-use Rattle.rules.specs.Rules.{OfFloor, countRules, operationsRule, planRule, earlierRules, planRules}
+use Rattle.rules.specs.Rules.{countRules, operationsRule, planRule, earlierRules, planRules}
 use Rattle.rules.proofs.Leaving.{working}
+use Rattle.rules.proofs.Floors.{dec-floor, dec-slower}
 
 -- rule 9 is given with one place, as the others are
 pub one-plan-rule : {ℓ : Reports} {f : Fraction} {qs : List Rule} → Soles qs → Soles (planRule ℓ f ∷ qs)
@@ -34,17 +32,6 @@ pub one-count-verdict :
     (so-far : Verdict) (arrivals deadlines operations : ℕ) (terms : Roll) (floor : Floor) (room : ℕ) (r s : Verdict) →
     After so-far (countRules arrivals deadlines operations terms floor room) r → After so-far (countRules arrivals deadlines operations terms floor room) s → r ≡ s
 one-count-verdict so-far arrivals deadlines operations terms floor room r s = one-after so-far r s (search singly depth 40)
-
--- what can be decided of every R and T can be of a floor
-unfoldable pub dec-floor : {floor : Floor} {P : ℕ → ℕ → Type 0} → ((r t : ℕ) → Decidable (P r t)) → Decidable (OfFloor floor P)
-dec-floor {floor} {P} d = record { decided = by-floor floor }
-  where
-    by-floor : (floor : Floor) → OfFloor floor P ⊎ (OfFloor floor P → ⊥)
-    by-floor Absent = inr (λ h. h)
-    by-floor (Slowest r t) = d r t .decided
-
-unfoldable pub dec-slower : {f g : Fraction} → Decidable (f ≺ g)
-dec-slower {f} {g} = record { decided = split f g inl (λ h. inr (λ l. ≺-≼-absurd l h)) }
 
 -- the rules before the last can be decided
 unfoldable pub decided : (x : Input) → Decides (earlierRules x)

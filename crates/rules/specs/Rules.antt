@@ -36,7 +36,7 @@ abbrev pub paceRule : Roll → Rule
 paceRule terms = rule 4 (Overall (BadPace (terms .p) (terms .q)))
 
 -- Something is so of R and T: never where the floor is absent.
-abbrev pub OfFloor : Floor → (ℕ → ℕ → Type 0) → Type 0
+unfoldable pub OfFloor : Floor → (ℕ → ℕ → Type 0) → Type 0
 OfFloor Absent P = ⊥
 OfFloor (Slowest r t) P = P r t
 

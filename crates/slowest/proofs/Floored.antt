@@ -25,9 +25,9 @@ pub ≼-capped : (slowest : Option Fraction) {fastest pace : Fraction} → UpTo 
 ≼-capped none h k = k
 ≼-capped (some s) h k = ≼-sooner k h
 
-pub capped-positive : (slowest : Option Fraction) {fastest pace : Fraction} → UpTo slowest fastest → Positive fastest → Positive pace → Positive (capped slowest pace)
-capped-positive none h pos p = p
-capped-positive (some s) {pace = pace} h pos p = sooner-positive pace s p (positive-up h pos)
+pub capped-positive : (slowest : Option Fraction) (fastest pace : Fraction) → UpTo slowest fastest → Positive fastest → Positive pace → Positive (capped slowest pace)
+capped-positive none fastest pace h pos p = p
+capped-positive (some s) fastest pace h pos p = sooner-positive pace s p (positive-up h pos)
 
 -- at a threshold up to the slowest pace the shortfall is the same
 pub less-capped : (slowest : Option Fraction) (c pace : Fraction) → UpTo slowest c → less c (capped slowest pace) ≈ less c pace
@@ -47,7 +47,7 @@ module _ (ℓ : Reports) (slowest : Option Fraction) where
   pub floored-allowed : (fastest : Fraction) (T : Paces) → UpTo slowest fastest → Positive fastest → Allowed ℓ fastest T → Allowed ℓ fastest (floored slowest T)
   floored-allowed fastest T h pos a = record {
     keeps = record {
-      positive = λ i k. capped-positive slowest h pos (a .keeps .positive i k);
+      positive = λ i k. capped-positive slowest fastest (T i) h pos (a .keeps .positive i k);
       in-time = λ i k. ≼-trans (floored-finish T i) (a .keeps .in-time i k);
     };
     no-faster = λ i k. ≼-capped slowest h (a .no-faster i k);
