@@ -23,7 +23,7 @@ use Rattle.critical.proofs.Tests.{Test, test-and, test-le, test-lt, test-eq, te
 use Rattle.critical.proofs.Table.{block}
 use Rattle.critical.proofs.Table as Definitions
 use Rattle.rules.specs.Offsets.{Input, reportsOf, fastestOf}
-use Rattle.rules.specs.Rules.{paceRule, planRule, earlierRules}
+use Rattle.rules.specs.Rules.{OfFloor, paceRule, planRule, earlierRules}
 use Rattle.rules.specs.declared.Roll.{Roll}
 use Rattle.rules.specs.declared.Floor.{Floor}
 use Rattle.rules.specs.declared.Floor.the-variants.{Absent, Slowest}
@@ -231,7 +231,7 @@ module _ (x : Input) where
 
 -- the rules before rule 9 are decided by computing, and so is the rest
 test : Entry → Bool
-unfolding meets decided dec-floor dec-slower split cases passed-or-given outcome Decided dec-below dec-equal dec-not dec-or dec-falls decides-none decides-overall decides-least least-or-none Falls ℕ-discrete decLt start holder behind sum whole over plus times later
+unfolding meets decided OfFloor dec-floor dec-slower passed-or-given outcome Decided dec-below dec-equal dec-not dec-or dec-falls decides-none decides-overall decides-least least-or-none Falls ℕ-discrete decLt start holder behind sum whole over plus times later
 test e = meets (input e) (passed-or-given (decided (input e))) (e .result)
 
 -- of a whole table

@@ -4,13 +4,14 @@ use Prim.Native.Nat.{ℕ, _*_, _<_, max}
 use mathlib.Core.Path.{_≡_, sym, ap₂, subst}
 use mathlib.Core.Bool.{Bool, false, true≢false}
 use mathlib.Core.Logic.{_⊎_, inl, inr}
+use native.Mathlib.Decide.{decLt}
 use lib.Dec.{ltb}
 use Rattle.trials.specs.Tries.{Tells}
 use Rattle.trials.proofs.Trying.{tells-as, tells-below}
 use Rattle.trials.proofs.Passing.{Quiet, untrue}
 use Rattle.trials.proofs.Deciding.{Decidable}
 use Rattle.fraction.specs.Fraction.{Fraction, _≺_, over}
-use Rattle.fraction.proofs.Order.{split, ≺-≼-absurd}
+use Rattle.fraction.proofs.Order.{split}
 use Rattle.slowest.specs.Slowest.{UpTo}
 use Rattle.rules.specs.Offsets.{paceOf, slowestIn}
 use Rattle.rules.specs.Rules.{OfFloor, belowRule}
@@ -46,7 +47,7 @@ dec-floor Absent P d = record { decided = inr (λ h. h) }
 dec-floor (Slowest r t) P d = d r t
 
 unfoldable pub dec-slower : {f g : Fraction} → Decidable (f ≺ g)
-dec-slower {f} {g} = record { decided = split f g (λ l. inl l) (λ h. inr (λ l. ≺-≼-absurd l h)) }
+dec-slower {f} {g} = record { decided = elim (decLt (f .num * g .den) (g .num * f .den)) [ yes h ↦ inl (record { cross = h }) | no h ↦ inr (λ l. h (l .cross)) ] }
 
 -- ---- a floor that rule 17 leaves is not below P/Q
 pub good-floor : (floor : Floor) (terms : Roll) → Quiet (belowRule floor terms) → UpTo (slowestIn floor) (paceOf terms)

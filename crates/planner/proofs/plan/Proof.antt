@@ -21,7 +21,7 @@ returns : tie.Need-returns
 returns c =
     let t = c .before .before .before in
     let x = input t in
-    let r : Refuses (overallRules x) (c .before .tried .given .0 .0) = refuses (t .count-rules .ensures) (c .before .tried .given .1) in
+    let r : Refuses (overallRules x) (c .before .tried .given .0 .0) = refuses {rules = overallRules x} (t .count-rules .ensures) (c .before .tried .given .1) in
     (hands-up (reportsOf x) (fastestOf x) (x .buffer) (overallRules x) (reportRules (reportsOf x) (fastestOf x)) r, r .numbered)
 
 -- where they are silent
