@@ -21,7 +21,7 @@ use Rattle.roll.specs.declared.Ending.{Ending}
 use Rattle.roll.specs.declared.TrailerAnswer.{TrailerAnswer}
 use Rattle.roll.specs.declared.TrailerAnswer.the-variants.{Is, Not}
 use Rattle.roll.proofs.TrailerAnswer.{the-type}
-use Rattle.roll.proofs.Marks.{without-floor, trailer-range, plain-mark}
+use Rattle.roll.proofs.Marking.{without-floor, trailer-range, plain-mark}
 
 -- ---- what an accepted file says, with a trailer of so many bytes
 pub record FileIs (s : List ℕ) (trailer : ℕ) : Type 0 where

@@ -1,4 +1,4 @@
-pub mod Marks
+pub mod Marking
 pub mod FileRules
 pub mod Rolls
 pub mod OneResult

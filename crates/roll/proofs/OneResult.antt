@@ -29,7 +29,7 @@ use Rattle.roll.specs.declared.Numbers.{Numbers}
 use Rattle.roll.specs.declared.Reading.{Reading}
 use Rattle.roll.specs.declared.TrailerAnswer.{TrailerAnswer}
 use Rattle.roll.specs.declared.TrailerAnswer.the-variants.{Is, Not}
-use Rattle.roll.proofs.Marks.{dec-marked}
+use Rattle.roll.proofs.Marking.{dec-marked}
 
 -- ---- each rule is given with one place only
 pub single-file : (s : List ℕ) → Soles (fileRules s)

@@ -17,7 +17,7 @@ use Rattle.rules.specs.declared.Floor.the-variants.{Slowest}
 use Rattle.planner.specs.Outcome.{PlanOutcome}
 use Rattle.planner.proofs.Outcomes.{by-either, refused-outcome, goes-on}
 use Rattle.roll.specs.Format.{u16At, u32At, backOf, countOf, termsOf, mark, floorMark, endsIn, hasFloor, trailerLong, floorOf, Marked, fileRules, recordsOf, inputIn, inputOf, RollOutcome}
-use Rattle.roll.proofs.Marks.{same-ends, with-floor, without-floor, trailer-range}
+use Rattle.roll.proofs.Marking.{same-ends, with-floor, without-floor, trailer-range}
 
 -- two rolls with the same list, whose file rules are given alike, have the same outcome
 same-outcome :

@@ -131,7 +131,7 @@ fn trailer_numbers(file: &[u8]) -> Trailer
 }
 
 // What the roll's end says, of a roll that is as long as its trailer.
-fn ending(file: &[u8]) -> Ending
+fn ending_of(file: &[u8]) -> Ending
     requires { ⌜ trailerLong (now file) ≤ length (now file) ⌝ }
     ensures { λ r. ⌜ EndingIs (now (file .entry)) r ⌝ }
 {
@@ -155,7 +155,7 @@ pub fn read_trailer(file: &[u8]) -> TrailerAnswer
     if let Verdict::Given(refusal) = tried {
         return TrailerAnswer::Not(refusal);
     }
-    TrailerAnswer::Is(ending(file))
+    TrailerAnswer::Is(ending_of(file))
 }
 
 // The refusal in a trailer's answer; number 0 and place 0 where the trailer is there.
@@ -221,7 +221,8 @@ fn numbers_of(file: &[u8], ending: Ending) -> Numbers
     ensures { λ r. ⌜ NumbersIs (now (file .entry)) r ⌝ }
 {
     let trailer = ending.trailer;
-    let floor = floor_numbers(ending.floor);
+    let floor = ending.floor;
+    let floor = floor_numbers(floor);
     let at = records_at(file);
     let size = Trailer::RECORD * trailer.count as usize;
     Numbers {

@@ -23,7 +23,7 @@ use Rattle.planner.proofs.Outcomes.{accepts}
 use Rattle.roll.specs.Format.{endsIn, trailerLong, floorOf, fileRules, inputOf}
 use Rattle.lists.specs.Listed.{listed}
 use Rattle.rules.proofs.Floors.{dec-floor, dec-slower}
-use Rattle.roll.proofs.Marks.{dec-marked}
+use Rattle.roll.proofs.Marking.{dec-marked}
 use Rattle.text.specs.Text.{placesUpTo, line, rowLines, planText}
 use Rattle.rolltext.specs.Program.{longRule, ProgramOutcome}
 

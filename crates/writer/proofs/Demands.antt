@@ -19,7 +19,7 @@ use Rattle.planner.proofs.Outcomes.{goes-on}
 use Rattle.roll.specs.Format.{mark, endsIn, floorOf, countOf, referenceOf, pOf, qOf, termsOf, backOf, fileRules, recordsAt, recordsOf, columnIn, inputIn, inputOf, RollOutcome}
 use Rattle.roll.specs.Answers.{floorNumbers, NumbersIs, PartFrom, PartIs}
 use Rattle.roll.specs.declared.Numbers.{Numbers}
-use Rattle.roll.proofs.Marks.{without-floor, plain-mark}
+use Rattle.roll.proofs.Marking.{without-floor, plain-mark}
 use Rattle.roll.proofs.Demands as Roll
 use Rattle.writer.specs.Bytes.{Listing, rollLong, rollBytes, shown, ReadsBack, handed, ByteString}
 use Rattle.writer.specs.Writing.{WriteOutcome, Writable}

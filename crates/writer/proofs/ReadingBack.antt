@@ -15,7 +15,7 @@ use Rattle.trials.proofs.Passing.{Passed, not-given, more, none}
 use Rattle.fraction.proofs.Scale.{cases}
 use Rattle.rules.specs.declared.Roll.{Roll}
 use Rattle.roll.specs.Format.{u16At, u32At, mark, endsIn, trailerLong, backOf, countOf, referenceOf, pOf, qOf, termsOf, fileRules, recordsAt, recordsOf, columnIn}
-use Rattle.roll.proofs.Marks.{ends-in, without-floor, plain-mark}
+use Rattle.roll.proofs.Marking.{ends-in, without-floor, plain-mark}
 use Rattle.writer.specs.Bytes.{Listing, recordBytes, recordsUpTo, recordsBytes, trailerBytes, trailerFor, rollLong, rollBytes, shown, ReadsBack}
 use Rattle.writer.proofs.LittleEndian.{two-bytes, four-bytes, byte-behind, u16-behind, u32-behind, u32-before}
 use Rattle.writer.proofs.Records.{Packable, length-records, records-long, roll-long}

@@ -17,7 +17,7 @@ use Rattle.rules.specs.declared.Floor.the-variants.{Absent}
 use Rattle.roll.specs.Format.{mark, endsIn, countOf, backOf, fileRules, recordsAt, recordsLong}
 use Rattle.roll.specs.Answers.{floorNumbers, NumbersIs, PartFrom, PartIs}
 use Rattle.roll.specs.declared.Numbers.{Numbers}
-use Rattle.roll.proofs.Marks.{without-floor, plain-mark}
+use Rattle.roll.proofs.Marking.{without-floor, plain-mark}
 use Rattle.roll.proofs.FileRules.{plain-file}
 use Rattle.roll.proofs.OneResult.{one-numbers}
 use Rattle.writer.specs.Bytes.{Listing, rollBytes, shown, ReadsBack, ByteString}

@@ -12,7 +12,7 @@ use Rattle.lists.proofs.Filling.{getD-listed}
 use Rattle.trials.proofs.Passing.{Passed}
 use Rattle.roll.specs.Format.{mark, endsIn, u16At, u32At, backOf, countOf, referenceOf, pOf, qOf, termsOf, fileRules, recordsAt, recordsOf, columnIn}
 use Rattle.roll.specs.declared.Trailer.{Trailer}
-use Rattle.roll.proofs.Marks.{its-bytes}
+use Rattle.roll.proofs.Marking.{its-bytes}
 use Rattle.roll.proofs.FileRules.{FileIs, plain-file}
 use Rattle.roll.proofs.Rolls.{column-long}
 use Rattle.writer.specs.Bytes.{le16, le32, recordBytes, recordsUpTo, trailerBytes, rollBytes, shown, ByteString}

@@ -13,7 +13,7 @@ use Rattle.roll.proofs.plan_list.Tie as tie
 
 -- ---- where the rules of the whole list have been tried
 abbrev entry : tie.After-count-rules → tie.Start
-entry c = c .before .before .before .before .before
+entry c = c .before .before .before .before .before .before
 
 has : (c : tie.After-count-rules) → FileHas (entry c .args .file .now) (entry c .args .ending)
 has c = file-has (entry c .pre)

@@ -95,8 +95,12 @@ module _ {M : Type 1} (𝓤 : URA M) (H : Heap 𝓤) (A : Atoms 𝓤) (mem : Mem
 abbrev val : TrailerAnswer → Val
 val = EL.val D.the-type D.Laws.the-laws
 
+-- and what a roll's end says: by its fields' values, since a floor's is by its case
+abbrev end : Ending → Val
+end = LL.val B.the-type B.Laws.the-laws
+
 -- what a roll's end says, in an answer, has its own relation, by the answer's
-ending-is : (t : Ending) → Is D.the-row (There t) (val (There t) ∷ []) → Is B.the-row t (B.Laws.lowered t ∷ [])
+ending-is : (t : Ending) → Is D.the-row (There t) (val (There t) ∷ []) → Is B.the-row t (end t ∷ [])
 ending-is t is = EL.owed D.the-type D.Laws.the-laws (There t) _ is .0
 
 -- the arm of a refused trailer
@@ -140,7 +144,7 @@ module _ {M : Type 1} (𝓤 : URA M) (H : Heap 𝓤) (A : Atoms 𝓤) (W : Given
   to-file = (((κ, tt), (q, tt), tt, (s, tt), (v ∷ [], tt)), tt)
 
   abbrev to-both : Ending → NumbersOf 𝓤 H A mem run .Ghost
-  to-both t = (((κ, tt), (q, tt), tt, (s, (t, tt)), (v ∷ [], (B.Laws.lowered t ∷ [], tt))), tt)
+  to-both t = (((κ, tt), (q, tt), tt, (s, (t, tt)), (v ∷ [], (end t ∷ [], tt))), tt)
 
   abbrev to-answer : TrailerAnswer → NumbersRefused 𝓤 H A mem run .Ghost
   to-answer a = ((tt, tt, tt, (a, tt), (val a ∷ [], tt)), tt)
@@ -150,10 +154,10 @@ module _ {M : Type 1} (𝓤 : URA M) (H : Heap 𝓤) (A : Atoms 𝓤) (W : Given
   lends-it = lends 𝓤 H A W (alive 𝓤 H A read.signature (κ, tt) (q, tt)) κ s v ftrue (emp 𝓤) (id⊢ 𝓤 _) (id⊢ 𝓤 _)
 
   -- and with what the roll's end says, where its trailer is there
-  lends-both : (t : Ending) → Is B.the-row t (B.Laws.lowered t ∷ []) → TrailerAnswerIs (now s) (There t)
+  lends-both : (t : Ending) → Is B.the-row t (end t ∷ []) → TrailerAnswerIs (now s) (There t)
       → ent 𝓤 (⋆ 𝓤 H A (Token ∷ ‵ Own ∷ [])) (sep 𝓤 (NumbersOf 𝓤 H A mem run .pre (to-both t)) (sem 𝓤 H A Own))
   lends-both t is e =
-      lends 𝓤 H A W (alive 𝓤 H A read.signature (κ, tt) (q, tt)) κ s v (fsep (B.the-row .own t (B.Laws.lowered t ∷ [])) ftrue) (fact 𝓤 (TrailerAnswerIs (now s) (There t)))
+      lends 𝓤 H A W (alive 𝓤 H A read.signature (κ, tt) (q, tt)) κ s v (fsep (B.the-row .own t (end t ∷ [])) ftrue) (fact 𝓤 (TrailerAnswerIs (now s) (There t)))
       (qed W [] ∵ nothing ! $ owned ! B.the-row (Is B.the-row) (LL.makes B.the-type B.Laws.the-plain 𝓤 H A) t _ is $ done !) (factI 𝓤 _ (emp 𝓤) e)
 
   -- what `numbers_refused` asks is had for nothing

@@ -1,7 +1,7 @@
 -- `roll::marks::ends_in` meets its contract: the mark, byte by byte.
 -- Assumes nothing.
 use borrow.Author.Needs.{needs}
-use Rattle.roll.proofs.Marks.{ends-first, ends-second}
+use Rattle.roll.proofs.Marking.{ends-first, ends-second}
 use Rattle.roll.proofs.marks.ends_in.Statement.{statement}
 use Rattle.roll.proofs.marks.ends_in.Tie as tie
 

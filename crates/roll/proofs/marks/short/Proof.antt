@@ -4,7 +4,7 @@ use borrow.Author.Needs.{needs}
 use mathlib.Core.Path.{refl}
 use native.Mathlib.Omega.{arith}
 use Rattle.trials.proofs.Trying.{tells-yes, tells-below-of}
-use Rattle.roll.proofs.Marks.{trailer-range}
+use Rattle.roll.proofs.Marking.{trailer-range}
 use Rattle.roll.proofs.marks.short.Statement.{statement}
 use Rattle.roll.proofs.marks.short.Tie as tie
 

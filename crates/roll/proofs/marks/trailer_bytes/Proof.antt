@@ -2,7 +2,7 @@
 -- Assumes nothing.
 use borrow.Author.Needs.{needs}
 use mathlib.Core.Path.{sym, _∙_}
-use Rattle.roll.proofs.Marks.{with-floor, without-floor}
+use Rattle.roll.proofs.Marking.{with-floor, without-floor}
 use Rattle.roll.proofs.marks.trailer_bytes.Statement.{statement}
 use Rattle.roll.proofs.marks.trailer_bytes.Tie as tie
 

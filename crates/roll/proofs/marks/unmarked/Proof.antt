@@ -3,7 +3,7 @@
 use borrow.Author.Needs.{needs}
 use mathlib.Core.Path.{sym, _∙_}
 use mathlib.Core.Logic.{inl, inr}
-use Rattle.roll.proofs.Marks.{not-unmarked, is-unmarked}
+use Rattle.roll.proofs.Marking.{not-unmarked, is-unmarked}
 use Rattle.roll.proofs.marks.unmarked.Statement.{statement}
 use Rattle.roll.proofs.marks.unmarked.Tie as tie
 

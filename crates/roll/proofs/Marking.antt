@@ -1,6 +1,6 @@
 -- The marks at a roll's end, and what they decide.
 -- Assumes nothing.
-use Prim.Native.Nat.{ℕ, _-_, _≤_}
+use Prim.Native.Nat.{ℕ, _-_, _≤_, _<_}
 use mathlib.Core.Path.{_≡_, refl, sym, _∙_, ap, ap₂}
 use mathlib.Core.Bool.{Bool, true, false, _&&_, cond, true≢false}
 use mathlib.Core.List.{List}
@@ -12,6 +12,7 @@ use borrow.Author.Tests.{eqb-true, eq-eqb, ne-eqb}
 use Rattle.trials.specs.Tries.{Tells}
 use Rattle.trials.proofs.Trying.{tells-yes}
 use Rattle.trials.proofs.Deciding.{Decidable}
+use Rattle.fraction.proofs.Scale.{cases}
 use Rattle.rules.specs.declared.Floor.{Floor}
 use Rattle.rules.specs.declared.Floor.the-variants.{Absent, Slowest}
 use Rattle.roll.specs.Format.{rOf, tOf, mark, endsIn, hasFloor, trailerLong, floorOf, Marked}
@@ -60,6 +61,10 @@ module _ (s : List ℕ) where
       go true e = let l = with-floor e .0 in (omega (arith, l), omega (arith, l))
       go false e = let l = without-floor e .0 in (omega (arith, l), omega (arith, l))
 
+  -- a roll that is not shorter than its trailer
+  pub not-short : (length s < trailerLong s → ⊥) → (trailerLong s ≤ length s) × (16 ≤ length s)
+  not-short h = let l : trailerLong s ≤ length s = cases (length s) (trailerLong s) (λ k. absurd (h k)) (λ g. g) in (l, omega (arith, l, trailer-range .0))
+
   -- a roll marked AQ has no floor
   pub plain-mark : endsIn s mark ≡ true → hasFloor s ≡ false
   plain-mark e = go (hasFloor s) refl
@@ -69,9 +74,6 @@ module _ (s : List ℕ) where
       go false f = f
 
   -- ---- the test of rule 11
-  pub marked : (endsIn s mark ≡ true) → Marked s
-  marked e = record { is = inl e }
-
   pub not-unmarked : Marked s → Tells (Marked s → ⊥) false
   not-unmarked m = record { yes = λ e. absurd (true≢false (sym e)); no = λ _ n. n m }
 
