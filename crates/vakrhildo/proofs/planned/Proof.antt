@@ -9,7 +9,7 @@ use Rattle.vakrhildo.proofs.planned.Tie as tie
 returns : tie.Need-returns
 returns c =
     let p = c .before .before .before in
-    let a = p .before .before .before .before .before .args in
+    let a = p .before .before .before .before .before .before .args in
     to-reply (λ x y z. PlanOutcome (record { arrivals = a .arrivals .now; deadlines = a .deadlines .now; operations = a .operations .now; terms = a .terms; floor = a .floor; buffer = a .rows .now }) x y z (p .plan .last .1 .1 .1 .1 .1 .0)) (c .in-numbers .ensures) (p .plan .ensures .0)
 
 pub planned-spec : {M : Type 1} → statement M
