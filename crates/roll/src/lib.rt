@@ -221,8 +221,8 @@ fn numbers_of(file: &[u8], ending: Ending) -> Numbers
     ensures { λ r. ⌜ NumbersIs (now (file .entry)) r ⌝ }
 {
     let trailer = ending.trailer;
-    let floor = ending.floor;
-    let floor = floor_numbers(floor);
+    let given = ending.floor;
+    let floor = floor_numbers(given);
     let at = records_at(file);
     let size = Trailer::RECORD * trailer.count as usize;
     Numbers {
