@@ -20,6 +20,7 @@ use Rattle.critical.proofs.Theorems.{one-list-of-rows, first-failure, not-both}
 use Rattle.slowest.specs.Slowest.{UpTo, NoSlower, PlannableWithin}
 use Rattle.slowest.proofs.Theorems.{runs-within, runs-allowed, plan-within, runs-least-sum, runs-least-sum-above, runs-least-cost}
 use Rattle.rules.specs.Offsets.{Input, reportsOf, fastestOf, slowestOf}
+use Rattle.rules.specs.declared.Floor.{Floor}
 use Rattle.rules.specs.Rules.{paceRule, belowRule, earlierRules, planRule, planRules}
 use Rattle.planner.specs.Outcome.{rowAt, planIn, runningIn, WellFormed, Outcome, PlanOutcome}
 use Rattle.rules.proofs.Leaving.{good-pace}
@@ -69,6 +70,16 @@ pub and-no-others :
 unfolding Outcome
 and-no-others x place blocks after fastest m rows o c =
     one-list-of-rows (reportsOf x) (fastestOf x) fastest blocks m (rowAt after) rows (works x (record { accepted = o .0 })) (o .2 .rows) c
+
+-- The floor does not move them: with another floor, or with none, an accepted list has the same rows.
+pub whatever-the-floor :
+    (x : Input) (floor : Floor) (place blocks place′ blocks′ : ℕ) (after after′ : List ℕ) →
+    PlanOutcome x 0 place blocks after →
+    PlanOutcome (record { arrivals = x .arrivals; deadlines = x .deadlines; operations = x .operations; terms = x .terms; floor = floor; buffer = x .buffer }) 0 place′ blocks′ after′ →
+    (blocks ≡ blocks′) × (after ≡ after′)
+unfolding Outcome
+whatever-the-floor x floor place blocks place′ blocks′ after after′ o o′ =
+    One.one-buffer (reportsOf x) (fastestOf x) (works x (record { accepted = o .0 })) (x .buffer) blocks blocks′ after after′ (o .2) (o′ .2)
 
 -- where rule 4 is silent, P/Q is positive
 pace-positive : (x : Input) → Passed (earlierRules x) → Positive (fastestOf x)

@@ -32,7 +32,8 @@ row-numbers a b k e (suc (suc (suc zero))) h = ap (λ (r : Row). r .end) e
 row-numbers a b k e (suc (suc (suc (suc zero)))) h = ap (λ (r : Row). r .operations) e
 row-numbers a b k e (suc (suc (suc (suc (suc j))))) h = absurd (omega arith)
 
-one-buffer : (ℓ : Reports) (f : Fraction) → Working ℓ → (before : List ℕ) (m n : ℕ) (a b : List ℕ) → Written ℓ f before m a → Written ℓ f before n b → (m ≡ n) × (a ≡ b)
+-- what is written is one thing
+pub one-buffer : (ℓ : Reports) (f : Fraction) → Working ℓ → (before : List ℕ) (m n : ℕ) (a b : List ℕ) → Written ℓ f before m a → Written ℓ f before n b → (m ≡ n) × (a ≡ b)
 one-buffer ℓ f working before m n a b v w = (e, ext-getD 0 a b (v .as-long ∙ sym (w .as-long)) number)
   where
     same : (m ≡ n) × ((k : ℕ) → k < m → rowAt a k ≡ rowAt b k)

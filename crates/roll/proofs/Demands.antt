@@ -3,25 +3,28 @@
 -- number, place, blocks and after are what it returns and what the row buffer then holds.
 -- Nothing is assumed.
 use Prim.Native.Nat.{ℕ, _<_}
-use mathlib.Core.Path.{_≡_}
+use mathlib.Core.Path.{_≡_, ap}
+use mathlib.Core.Bool.{true}
 use mathlib.Core.List.{List}
 use mathlib.Core.Logic.{_⊎_, _↔_, inl, inr, ⊎-elim}
-use mathlib.Core.Option.{Option}
+use mathlib.Core.Option.{Option, none, some}
 use native.Mathlib.Omega.{arith}
 use Rattle.trials.specs.Rules.{Accepted}
 use Rattle.trials.proofs.Single.{not-refused}
 use Rattle.trials.proofs.Numbers.{Never, never-none, never-other}
-use Rattle.fraction.specs.Fraction.{Fraction, _≼_, _≺_, whole}
+use Rattle.fraction.specs.Fraction.{Fraction, _≼_, _≺_, whole, over}
 use Rattle.critical.specs.Reports.{Reports, Paces, finish, Keeps, Allowed, Plannable, FirstWithout, steady}
 use Rattle.critical.specs.Rows.{Critical}
 use Rattle.critical.specs.Cost.{sumAt, Cost, Flatter, bill, NoHigher}
 use Rattle.slowest.specs.Slowest.{UpTo, NoSlower}
-use Rattle.rules.specs.Offsets.{Input, reportsOf, fastestOf, slowestOf}
+use Rattle.rules.specs.Offsets.{Input, reportsOf, fastestOf, slowestIn, slowestOf}
+use Rattle.rules.specs.declared.Floor.{Floor}
 use Rattle.rules.specs.Rules.{planRules}
 use Rattle.planner.specs.Outcome.{rowAt, runningIn, WellFormed, RefusedBy, PlanOutcome}
 use Rattle.planner.proofs.Outcomes.{by-either}
 use Rattle.planner.proofs.Demands as Of
-use Rattle.roll.specs.Format.{fileRules, inputOf, RollOutcome}
+use Rattle.roll.specs.Format.{rOf, tOf, mark, floorMark, endsIn, fileRules, inputOf, RollOutcome}
+use Rattle.roll.proofs.Marking.{with-floor, without-floor, plain-mark}
 use Rattle.roll.proofs.OneResult as One
 
 module _ (s buffer : List ℕ) where
@@ -38,6 +41,14 @@ module _ (s buffer : List ℕ) where
   -- The slowest pace that its floor gives: none, where the mark is AQ.
   abbrev slowest : Option Fraction
   slowest = slowestOf list
+
+  -- A roll marked AQ has no floor,
+  pub marked-AQ-it-has-no-floor : endsIn s mark ≡ true → slowest ≡ none
+  marked-AQ-it-has-no-floor e = ap (λ (f : Floor). slowestIn f) (without-floor s (plain-mark s e) .1)
+
+  -- and one marked AF has the floor R/T.
+  pub marked-AF-it-has-R-over-T : endsIn s floorMark ≡ true → slowest ≡ some (over (rOf s) (tOf s))
+  marked-AF-it-has-R-over-T e = ap (λ (f : Floor). slowestIn f) (with-floor s e .1)
 
   -- ---- Demand 1
 
