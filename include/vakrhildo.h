@@ -47,12 +47,12 @@ typedef struct {
     size_t blocks;
 } vakrhildo_reply;
 
-/* Plans a list, without a floor. arrivals and deadlines are readings of a 32-bit clock that goes on from 0; a reading's
-   offset is reading minus reference, modulo 2^32. P/Q is the fastest pace in ticks per operation. The
-   rows stand at the front of rows, in order, five numbers each: first report, last report (counted from
-   0), start offset, end offset, operations; the numbers behind them stay as they were, and on a refusal
-   all of them. A list of length n is n numbers from its pointer on; where n is 0 the pointer may be any
-   that is not NULL. rows must not overlap the lists. */
+/* Plans a list, without a floor. arrivals and deadlines are readings of a 32-bit clock that goes on from
+   0; a reading's offset is reading minus reference, modulo 2^32. P/Q is the fastest pace in ticks per
+   operation. The rows stand at the front of rows, in order, five numbers each: first report, last report
+   (counted from 0), start offset, end offset, operations; the numbers behind them stay as they were, and
+   on a refusal all of them. A list of length n is n numbers from its pointer on; where n is 0 the pointer
+   may be any that is not NULL. rows must not overlap the lists. */
 vakrhildo_reply vakrhildo_plan(const uint32_t *arrivals, size_t arrivals_length,
                                const uint32_t *deadlines, size_t deadlines_length,
                                const uint32_t *operations, size_t operations_length,
@@ -61,8 +61,8 @@ vakrhildo_reply vakrhildo_plan(const uint32_t *arrivals, size_t arrivals_length,
 
 /* Plans a list as vakrhildo_plan does, with a floor: R/T is the slowest pace, in ticks per operation.
    Refusals 16 and 17 are tried too; where neither is given, the reply and the rows are those that
-   vakrhildo_plan gives. What runs is not the rows: each report runs at the faster of its row's pace,
-   (end - start) / operations, and R/T. Its start is the later of its arrival and the finish of the report
+   vakrhildo_plan gives. What runs is not the rows: each report runs at the faster of its row's pace, (end
+   - start) / operations, and R/T. Its start is the later of its arrival and the finish of the report
    before, its finish its start plus its operations times that pace. So a row's reports may be done before
    the row's end, and none finishes later than in the row. */
 vakrhildo_reply vakrhildo_plan_floor(const uint32_t *arrivals, size_t arrivals_length,
@@ -98,8 +98,8 @@ typedef struct {
     size_t size;
 } vakrhildo_reading;
 
-/* Reads a roll: its trailer, and where its records stand. No byte is copied. Rules 1 to 9, 16
-   and 17 are not tried, so the count may be up to 65,535, and P, Q, R and T may be 0. */
+/* Reads a roll: its trailer, and where its records stand. No byte is copied. Rules 1 to 9, 16 and 17 are
+   not tried, so the count may be up to 65,535, and P, Q, R and T may be 0. */
 vakrhildo_reading vakrhildo_read(const uint8_t *roll, size_t roll_length);
 
 /* number: 0, the roll is written; else the refusal, of these in their order:
@@ -118,9 +118,9 @@ typedef struct {
 /* Writes the roll of a list into out from byte at on: the records, then the trailer, as vakrhildo_read
    reads them. The bytes before and behind the roll stay as they were, and on a refusal all of them. The
    roll's end is at + bytes: out up to there is a roll whose preface is the bytes before at, and reads as
-   the list that went in. Its mark is "AQ": no floor is written. No other rule is tried, so lists are written that have no plan. at may be any
-   number. A list of length n is as for vakrhildo_plan, and where out_length is 0 out may be any pointer
-   that is not NULL. out must not overlap the lists. */
+   the list that went in. Its mark is "AQ": no floor is written. No other rule is tried, so lists are
+   written that have no plan. at may be any number. A list of length n is as for vakrhildo_plan, and where
+   out_length is 0 out may be any pointer that is not NULL. out must not overlap the lists. */
 vakrhildo_write_reply vakrhildo_write(const uint32_t *arrivals, size_t arrivals_length,
                                       const uint32_t *deadlines, size_t deadlines_length,
                                       const uint32_t *operations, size_t operations_length,
