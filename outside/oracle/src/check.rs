@@ -1,6 +1,6 @@
 //! Checks of an accepted answer against the definitions themselves, independent of how its rows
-//! were found: what a plan is, the four properties of the plan wanted, what a block is, and the
-//! comparison of its sum of shortfalls with those of rival plans.
+//! were found: what a plan is, the four properties of the plan wanted, what a block is, what runs
+//! where a floor is given, and the comparison of its sum of shortfalls with those of rival plans.
 //!
 //! All of it is exact for every accepted list (up to 1,024 reports) and every threshold num/den:
 //! - Inside a row all times are whole multiples of 1/operations of that row, since the row starts
@@ -10,16 +10,23 @@
 //!   whose finishes lie on one fixed grid or whose paces are all the same.
 
 mod rivals;
+mod running;
 mod timing;
+
+pub use running::{paces_run, run};
 
 use crate::fraction::Fraction;
 use crate::Reports;
+use running::{above_the_floor, no_slower};
 use timing::{timings, Timing};
+
+/// Paces of the reports as fractions.
+type Paces = Vec<(i128, i128)>;
 
 /// Checks an accepted answer: rows cover the reports in order without gaps, operations are sums,
 /// every pace is positive and not below P/Q, starts and ends are those of the plan of these rows,
 /// every finish is at or before its deadline, properties 1 to 4 hold, and blocks are longest runs.
-/// The error names the first thing that fails.
+/// The error names the first thing that fails. A floor is not looked at: all of this is of the rows.
 pub fn plan(r: &Reports, rows: &[[u32; 5]]) -> Result<(), String> {
     covering(r, rows)?;
     allowed_paces(r, rows)?;
@@ -141,7 +148,7 @@ fn longest_runs(rows: &[[u32; 5]], times: &[Timing]) -> Result<(), String> {
 }
 
 /// The paces of the reports of rows, as fractions (end - start, operations), one for each report.
-pub fn paces(rows: &[[u32; 5]]) -> Vec<(i128, i128)> {
+pub fn paces(rows: &[[u32; 5]]) -> Paces {
     let mut paces = Vec::new();
     for &[first, last, start, end, operations] in rows {
         let length = i128::from(end) - i128::from(start);
@@ -176,42 +183,59 @@ fn sum_of_shortfalls(r: &Reports, paces: &[(i128, i128)], num: u64, den: u64) ->
     Some(sum)
 }
 
-/// Whether the plan with these paces keeps the list, by the definition of a plan. The error says
-/// why not.
-fn keeps(r: &Reports, paces: &[(i128, i128)]) -> Result<(), String> {
-    let mut before: Option<Fraction> = None;
+/// The finishes of the plan with these paces, by the definition of a plan: report i starts at the
+/// later of its arrival and the finish before, and finish = start + operations times pace. The error
+/// names a pace that is not positive, or a finish that does not fit.
+fn finishes(r: &Reports, paces: &[(i128, i128)]) -> Result<Vec<Fraction>, String> {
+    let mut finishes: Vec<Fraction> = Vec::new();
     for (i, &(num, den)) in paces.iter().enumerate() {
         let arrival = Fraction::whole(r.arrival[i]);
+        let before = finishes.last();
         let start = before.map_or(arrival, |finish| finish.later(arrival));
         let pace = Fraction::new(num, den).filter(|pace| pace.num > 0);
         let pace = pace.ok_or_else(|| format!("report {i}: pace is not positive"))?;
         let length = pace.times(r.operations[i]);
         let finish = length.and_then(|length| start.plus(length));
-        let finish = finish.ok_or_else(|| format!("report {i}: finish does not fit"))?;
-        if finish > Fraction::whole(r.deadline[i]) {
-            return Err(format!("report {i}: finish is after its deadline"));
-        }
-        before = Some(finish);
+        finishes.push(finish.ok_or_else(|| format!("report {i}: finish does not fit"))?);
     }
-    Ok(())
+    Ok(finishes)
 }
 
-/// Compares the sum at the threshold num/den of the plan of these rows with those of several
-/// rival plans, made with a random generator from `seed`; they keep the list but need not respect
-/// P/Q. Every rival is first verified to keep the list by the definition; one that does not (this
-/// happens only where the list has no allowed plan) is left out. Returns the number of rivals
-/// compared, the error names a rival with a smaller sum. An empty list has no rivals.
+/// Whether each of these finishes is at or before its deadline. The error names the first that is not.
+fn kept(r: &Reports, finishes: &[Fraction]) -> Result<(), String> {
+    let mut beside = finishes.iter().zip(&r.deadline);
+    match beside.position(|(finish, &deadline)| *finish > Fraction::whole(deadline)) {
+        Some(i) => Err(format!("report {i}: finish is after its deadline")),
+        None => Ok(()),
+    }
+}
+
+/// Whether the plan with these paces keeps the list. The error says why not.
+fn keeps(r: &Reports, paces: &[(i128, i128)]) -> Result<(), String> {
+    kept(r, &finishes(r, paces)?)
+}
+
+/// Compares the sum at the threshold num/den of what runs where these rows are the plan's with those
+/// of several rival plans, made with a random generator from `seed`; they keep the list but need not
+/// respect P/Q, nor, at a threshold up to a floor R/T, be no slower than it. At a threshold above R/T
+/// each is first made no slower. Every rival is then verified to keep the list by the definition; one
+/// that does not (this happens only where the list has no allowed plan) is left out. Returns the
+/// number of rivals compared, the error names a rival with a smaller sum. An empty list has no rivals.
 pub fn least(r: &Reports, rows: &[[u32; 5]], num: u64, den: u64, seed: u64) -> Result<u32, String> {
     covering(r, rows)?;
     if den == 0 {
         return Err("the threshold has no denominator".to_string());
     }
-    let own_paces = paces(rows);
+    let own_paces = paces_run(r, rows);
     keeps(r, &own_paces).map_err(|why| format!("the plan does not keep the list: {why}"))?;
     let unfit = || "a sum does not fit".to_string();
     let own = sum_of_shortfalls(r, &own_paces, num, den).ok_or_else(unfit)?;
+    let above = above_the_floor(r, num, den);
     let mut compared = 0;
-    for (name, rival) in rivals::all(r, rows, num, den, seed) {
+    for (name, mut rival) in rivals::all(r, rows, num, den, seed) {
+        if above {
+            rival = no_slower(r, rival);
+        }
         if rival.len() != r.arrival.len() || keeps(r, &rival).is_err() {
             continue;
         }

@@ -38,6 +38,8 @@ pub struct List<'a> {
     pub p: u32,
     /// Q of the fastest pace P/Q.
     pub q: u32,
+    /// R and T of the slowest pace R/T, where one is given (W2). The writer does not look at it.
+    pub floor: Option<(u32, u32)>,
     /// Length of the row buffer in 32-bit numbers. The writer has none, and does not look at it.
     pub room: usize,
 }
@@ -53,7 +55,7 @@ pub struct Answer {
     pub rows: Vec<[u32; 5]>,
 }
 
-/// What is read of a roll; on a refusal all but its number are 0.
+/// What is read of a roll; on a refusal all but its number are 0, and there is no floor.
 #[derive(Clone, Copy, Debug, Default, PartialEq, Eq)]
 pub struct Reading {
     /// 0 for a roll that is read, otherwise the number of the refusal, 10 to 13.
@@ -66,6 +68,8 @@ pub struct Reading {
     pub p: u32,
     /// Q of the fastest pace P/Q.
     pub q: u32,
+    /// R and T of the slowest pace R/T, in a roll marked "AF" alone.
+    pub floor: Option<(u32, u32)>,
     /// Where the first record starts, or would, in bytes from the roll's first.
     pub at: usize,
     /// How many bytes the records have together.
@@ -85,7 +89,7 @@ pub struct Written {
     pub buffer: Vec<u8>,
 }
 
-/// Offsets of an accepted list, with its operations and fastest pace, for the checks.
+/// Offsets of an accepted list, with its operations, its fastest pace and its slowest, for the checks.
 pub struct Reports {
     /// Arrival offsets.
     pub arrival: Vec<u64>,
@@ -97,6 +101,8 @@ pub struct Reports {
     pub p: u64,
     /// Q of the fastest pace P/Q.
     pub q: u64,
+    /// R and T of the slowest pace R/T, where there is one.
+    pub floor: Option<(u64, u64)>,
 }
 
 /// The answer that refuses with this number at this place.
@@ -108,8 +114,8 @@ fn refused(number: u32, place: u64) -> Answer {
     }
 }
 
-/// The answer for a plain list: rules 1 to 9 in order, each over the whole list before the next,
-/// then the rows.
+/// The answer for a plain list: rules 1 to 9 in order, with 16 and 17 of a floor directly after 4, each
+/// over the whole list before the next; then the rows, which are the same with a floor and without.
 pub fn answer_list(list: &List) -> Answer {
     match rules::refusal(list) {
         Some((number, place)) => refused(number, place),
@@ -134,6 +140,7 @@ pub fn answer_roll(roll: &[u8], room: usize) -> Answer {
                 reference: reading.reference,
                 p: reading.p,
                 q: reading.q,
+                floor: reading.floor,
                 room,
             })
         }
@@ -190,5 +197,6 @@ pub fn reports(list: &List) -> Reports {
         operations: list.operations.iter().map(|&o| u64::from(o)).collect(),
         p: u64::from(list.p),
         q: u64::from(list.q),
+        floor: list.floor.map(|(r, t)| (u64::from(r), u64::from(t))),
     }
 }

@@ -1,12 +1,15 @@
 //! The reader of rolls: refusals 10 to 13, the numbers of the trailer and where the records lie, and
 //! the list that they carry. A roll is taken apart from its end: the trailer's numbers one by one,
-//! last first, then the records; what is left is the preface.
+//! last first, then the records; what is left is the preface. A trailer marked "AF" has a floor's R and
+//! T before all that one marked "AQ" has.
 
 use crate::Reading;
 
 const TRAILER: usize = 16;
+const FLOOR_TRAILER: usize = 20;
 const RECORD: usize = 12;
 const MARK: [u8; 2] = [0x41, 0x51];
+const FLOOR_MARK: &[u8] = b"AF";
 
 /// The list in an accepted roll.
 #[derive(Clone, Debug, PartialEq, Eq)]
@@ -36,21 +39,27 @@ fn last<'a>(left: &mut &'a [u8], bytes: usize) -> &'a [u8] {
 
 /// Reads a roll; the error is the number of the refusal.
 pub fn read(roll: &[u8]) -> Result<Reading, u32> {
-    if roll.len() < TRAILER {
+    let floored = roll.ends_with(FLOOR_MARK);
+    let trailer = if floored { FLOOR_TRAILER } else { TRAILER };
+    if roll.len() < trailer {
         return Err(10);
     }
     let mut left = roll;
-    if last(&mut left, 2) != MARK {
+    if last(&mut left, 2) != MARK && !floored {
         return Err(11);
     }
     let [q, p, count, reference, back] =
         [2, 2, 2, 4, 4].map(|bytes| number(last(&mut left, bytes)));
-    if u64::from(back) != TRAILER as u64 + RECORD as u64 * u64::from(count) {
+    if u64::from(back) != trailer as u64 + RECORD as u64 * u64::from(count) {
         return Err(12);
     }
     if u64::from(back) > roll.len() as u64 {
         return Err(13);
     }
+    let floor = floored.then(|| {
+        let [t, r] = [2, 2].map(|bytes| number(last(&mut left, bytes)));
+        (r, t)
+    });
     let size = (0..count).map(|_| last(&mut left, RECORD).len()).sum();
     Ok(Reading {
         number: 0,
@@ -58,6 +67,7 @@ pub fn read(roll: &[u8]) -> Result<Reading, u32> {
         reference,
         p,
         q,
+        floor,
         at: left.len(),
         size,
     })

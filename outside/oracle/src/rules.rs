@@ -1,10 +1,12 @@
-//! Refusals 1 to 9 of a list, in their order, each tried over the whole list before the next.
+//! Refusals 1 to 9 of a list, in their order, each tried over the whole list before the next; where a
+//! floor is given, 16 and 17 directly after 4.
 
 use crate::{reports, List, Reports, MOST_REPORTS, ROW_NUMBERS};
 
 const MOST_OPERATIONS: u64 = 65_535;
 const TOP_OFFSET: u64 = 2_147_483_647;
-const TOP_OF_P_AND_Q: u32 = 65_535;
+/// The greatest P and Q, and R and T of a floor.
+const TOP_OF_A_PACE: u32 = 65_535;
 
 /// Number and place of the refusal of this list, if it is refused.
 pub fn refusal(list: &List) -> Option<(u32, u64)> {
@@ -15,21 +17,36 @@ pub fn refusal(list: &List) -> Option<(u32, u64)> {
     fault_of_a_report(&reports).or_else(|| no_allowed_plan(&reports))
 }
 
-/// Rules 1 to 4.
+/// Whether one of a pace's two numbers is outside.
+fn outside(pace: (u32, u32)) -> bool {
+    let inside = 1..=TOP_OF_A_PACE;
+    !inside.contains(&pace.0) || !inside.contains(&pace.1)
+}
+
+/// Rules 1 to 4, then 16 and 17.
 fn fault_of_the_whole(list: &List) -> Option<u32> {
     let count = list.arrivals.len();
-    let outside = |value: u32| !(1..=TOP_OF_P_AND_Q).contains(&value);
     if list.deadlines.len() != count || list.operations.len() != count {
         Some(1)
     } else if count > MOST_REPORTS {
         Some(2)
     } else if list.room < ROW_NUMBERS * count {
         Some(3)
-    } else if outside(list.p) || outside(list.q) {
+    } else if outside((list.p, list.q)) {
         Some(4)
     } else {
-        None
+        fault_of_the_floor(list)
     }
+}
+
+/// Rules 16 and 17, of a list whose P and Q are inside.
+fn fault_of_the_floor(list: &List) -> Option<u32> {
+    let (r, t) = list.floor?;
+    if outside((r, t)) {
+        return Some(16);
+    }
+    let below = u64::from(r) * u64::from(list.q) < u64::from(list.p) * u64::from(t);
+    below.then_some(17)
 }
 
 /// Rules 5 to 8, with the least report at fault by the first of them that fails.

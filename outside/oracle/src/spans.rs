@@ -167,6 +167,7 @@ mod tests {
                 operations,
                 p: 1,
                 q: 1,
+                floor: None,
             };
             assert_eq!(rows(&r, false), rows(&r, true));
         }

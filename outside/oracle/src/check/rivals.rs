@@ -4,14 +4,12 @@
 //! list demands; whether a rival keeps the list is verified by the caller all the same.
 
 use super::timing::timings;
+use super::Paces;
 use crate::rules::prefix_sums;
 use crate::Reports;
 
 /// Units a tick.
 const GRID: i128 = 1 << 20;
-
-/// Paces of the reports as fractions.
-type Paces = Vec<(i128, i128)>;
 
 /// The list on the grid.
 struct Grid {

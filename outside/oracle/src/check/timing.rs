@@ -1,5 +1,6 @@
 //! Starts and finishes of the reports in the plan of given rows, by the rule of what a plan is.
 
+use crate::fraction::Fraction;
 use crate::Reports;
 use std::cmp::Ordering;
 
@@ -17,6 +18,11 @@ impl Timing {
     /// The order of the finish and a whole offset.
     pub fn finish_beside(&self, offset: u64) -> Ordering {
         self.finish.cmp(&(i128::from(offset) * self.scale))
+    }
+
+    /// The finish itself; `None` where the row has no operations.
+    pub fn finish(&self) -> Option<Fraction> {
+        Fraction::new(self.finish, self.scale)
     }
 
     /// Whether the next report starts later than this one finishes.

@@ -14,10 +14,11 @@ pub struct Owned {
     pub reference: u32,
     pub p: u32,
     pub q: u32,
+    pub floor: Option<(u32, u32)>,
     pub room: usize,
 }
 
-/// A list with reference 0, P/Q 1/1 and just enough room.
+/// A list with reference 0, P/Q 1/1, no floor and just enough room.
 pub fn owned(arrivals: &[u32], deadlines: &[u32], operations: &[u32]) -> Owned {
     Owned {
         arrivals: arrivals.to_vec(),
@@ -26,6 +27,7 @@ pub fn owned(arrivals: &[u32], deadlines: &[u32], operations: &[u32]) -> Owned {
         reference: 0,
         p: 1,
         q: 1,
+        floor: None,
         room: 5 * arrivals.len(),
     }
 }
@@ -39,6 +41,7 @@ impl Owned {
             reference: self.reference,
             p: self.p,
             q: self.q,
+            floor: self.floor,
             room: self.room,
         }
     }
@@ -56,6 +59,11 @@ impl Owned {
         self
     }
 
+    pub fn with_floor(mut self, r: u32, t: u32) -> Owned {
+        self.floor = Some((r, t));
+        self
+    }
+
     /// The same offsets counted from another reference.
     pub fn with_reference(mut self, reference: u32) -> Owned {
         for reading in self.arrivals.iter_mut().chain(&mut self.deadlines) {
@@ -65,21 +73,29 @@ impl Owned {
         self
     }
 
-    /// A roll with this preface that carries the list; P and Q must fit two bytes.
+    /// A roll with this preface that carries the list, marked "AF" where there is a floor; the numbers
+    /// of both paces must fit two bytes.
     pub fn roll(&self, preface: &[u8]) -> Vec<u8> {
         let count = self.arrivals.len();
+        let two_bytes = |number: u32| u16::try_from(number).unwrap().to_le_bytes();
         let mut roll = preface.to_vec();
         for i in 0..count {
             roll.extend(self.arrivals[i].to_le_bytes());
             roll.extend(self.deadlines[i].to_le_bytes());
             roll.extend(self.operations[i].to_le_bytes());
         }
-        roll.extend((16 + 12 * count as u32).to_le_bytes());
+        let trailer = if let Some((r, t)) = self.floor {
+            roll.extend([two_bytes(r), two_bytes(t)].concat());
+            20
+        } else {
+            16
+        };
+        roll.extend((trailer + 12 * count as u32).to_le_bytes());
         roll.extend(self.reference.to_le_bytes());
         for number in [count as u32, self.p, self.q] {
-            roll.extend(u16::try_from(number).unwrap().to_le_bytes());
+            roll.extend(two_bytes(number));
         }
-        roll.extend(b"AQ");
+        roll.extend(if self.floor.is_some() { b"AF" } else { b"AQ" });
         roll
     }
 }

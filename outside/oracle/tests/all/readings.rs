@@ -18,6 +18,7 @@ fn read_at(at: usize) -> Reading {
         reference: 0xfeed_cafe,
         p: 258,
         q: 772,
+        floor: None,
         at,
         size: 24,
     }
@@ -31,6 +32,7 @@ fn refused(number: u32) -> Reading {
         reference: 0,
         p: 0,
         q: 0,
+        floor: None,
         at: 0,
         size: 0,
     }
@@ -60,6 +62,7 @@ fn a_roll_without_records_has_an_empty_part_before_its_trailer() {
         reference: 9,
         p: 1,
         q: 1,
+        floor: None,
         at,
         size: 0,
     };
@@ -77,6 +80,7 @@ fn the_rules_of_a_list_are_not_tried() {
         reference: 0,
         p: 0,
         q: 0,
+        floor: None,
         at: 3,
         size: 786_420,
     };
