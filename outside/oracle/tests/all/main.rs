@@ -1,5 +1,7 @@
 //! All tests of the oracle's public interface.
 
+mod floor_rolls;
+mod floors;
 mod helpers;
 mod plan_checks;
 mod random;

@@ -7,7 +7,7 @@ use crate::sums::RIVALS;
 use oracle::{answer_roll, check, Reports};
 
 /// A list of 1 to `most` reports with arrivals in order and windows that mostly have room.
-fn random_list(random: &mut Random, most: u32, horizon: u32) -> Owned {
+pub fn random_list(random: &mut Random, most: u32, horizon: u32) -> Owned {
     let count = 1 + random.below(most);
     let mut arrivals: Vec<u32> = (0..count).map(|_| random.below(horizon)).collect();
     arrivals.sort();
