@@ -1,11 +1,12 @@
 //! Vakrhildo for Rust: the proved planner, the roll's reader and its writer behind safe functions.
 //!
-//! `plan` takes three lists of readings, `plan_roll` a roll; both write rows of five numbers to the
-//! front of a buffer of the caller's and give back the number of rows, or a refusal that has left the
-//! buffer as it was. `read` gives back the numbers of a roll's trailer and the part of its bytes that
-//! holds the records. `write` writes the roll of three lists into a buffer of bytes from a place on.
-//! Every input of whatever length and content is answered. `plan_raw`, `plan_roll_raw`, `read_raw` and
-//! `write_raw` give the library's own numbers, of which the others make a `Result`.
+//! `plan` takes three lists of readings, `plan_floor` the same with a slowest pace, `plan_roll` a roll; all
+//! write rows of five numbers to the front of a buffer of the caller's and give back the number of rows,
+//! or a refusal that has left the buffer as it was. `read` gives back the numbers of a roll's trailer and
+//! the part of its bytes that holds the records. `write` writes the roll of three lists into a buffer of
+//! bytes from a place on. Every input of whatever length and content is answered. `plan_raw`,
+//! `plan_floor_raw`, `plan_roll_raw`, `read_raw` and `write_raw` give the library's own numbers, of which
+//! the others make a `Result`. `Row::runs_at` is the pace that a row's reports run at under a floor.
 #![warn(missing_docs)]
 
 use std::fmt;
@@ -41,11 +42,13 @@ impl Refusal {
             7 => "deadline offset above 2,147,483,647",
             8 => "arrival offset below that of the report before",
             9 => "no allowed plan for the reports up to this one",
-            10 => "roll shorter than 16 bytes",
-            11 => "mark wrong",
-            12 => "back distance is not 16 + 12 times the count",
+            10 => "roll shorter than 16 bytes, or marked AF and shorter than 20",
+            11 => "mark neither AQ nor AF",
+            12 => "back distance is not 16 (AF: 20) + 12 times the count",
             13 => "back distance exceeds the roll's length",
             15 => "too little room in the buffer behind the place",
+            16 => "R or T outside 1 to 65,535",
+            17 => "R/T below P/Q",
             _ => "unknown refusal",
         }
     }
@@ -65,8 +68,18 @@ impl fmt::Display for Refusal {
 
 impl std::error::Error for Refusal {}
 
+/// A floor: no report runs slower than R/T, in ticks per operation.
+#[derive(Clone, Copy, Debug, PartialEq, Eq)]
+pub struct Floor {
+    /// R of the slowest pace R/T.
+    pub r: u32,
+    /// T of the slowest pace R/T.
+    pub t: u32,
+}
+
 /// A block: reports `first` to `last` run from tick `start` to tick `end` after the reference, at
-/// (end - start) / operations ticks per operation.
+/// (end - start) / operations ticks per operation. Under a floor they run at the faster of that pace and
+/// R/T (`runs_at`), and may be done before `end`.
 #[derive(Clone, Copy, Debug, PartialEq, Eq)]
 pub struct Row {
     /// First report, counted from 0.
@@ -81,6 +94,34 @@ pub struct Row {
     pub operations: u32,
 }
 
+impl Row {
+    /// The pace at which the reports of a planned row run under a floor, in ticks per operation, as a
+    /// fraction of two whole numbers: the faster of the row's own, (end - start) / operations, and R/T.
+    /// Each report starts at the later of its arrival and the finish of the report before, and finishes
+    /// its operations times this pace later.
+    ///
+    /// ```
+    /// use vakrhildo::{plan_floor, rows, Floor};
+    ///
+    /// let mut buffer = [0; 10];
+    /// let floor = Floor { r: 3, t: 1 };
+    /// let blocks = plan_floor(&[0, 0], &[4, 12], &[2, 2], 0, 1, 1, floor, &mut buffer)?;
+    /// let run: Vec<_> = rows(&buffer, blocks).map(|row| row.runs_at(floor)).collect();
+    /// // the first in two ticks an operation, from 0 to 4; the second in three and not four, from 4 to 10
+    /// assert_eq!(run, [(4, 2), (3, 1)]);
+    /// # Ok::<(), vakrhildo::Refusal>(())
+    /// ```
+    pub fn runs_at(&self, floor: Floor) -> (u32, u32) {
+        let ticks = self.end.saturating_sub(self.start);
+        let cross = |one: u32, other: u32| u64::from(one) * u64::from(other);
+        if cross(ticks, floor.t) <= cross(floor.r, self.operations) {
+            (ticks, self.operations)
+        } else {
+            (floor.r, floor.t)
+        }
+    }
+}
+
 /// The first `blocks` rows of a buffer; fewer where it is shorter.
 pub fn rows(buffer: &[u32], blocks: usize) -> impl Iterator<Item = Row> + '_ {
     buffer.chunks_exact(ROW).take(blocks).map(|n| Row {
@@ -93,7 +134,8 @@ pub fn rows(buffer: &[u32], blocks: usize) -> impl Iterator<Item = Row> + '_ {
 }
 
 /// What is read of a roll: the trailer's numbers, and the part of the caller's bytes that holds the
-/// records, 12 bytes each. Rules 1 to 9 are not tried: the count may be up to 65,535, P and Q may be 0.
+/// records, 12 bytes each. Rules 1 to 9, 16 and 17 are not tried: the count may be up to 65,535, and P, Q,
+/// R and T may be 0.
 #[derive(Clone, Copy, Debug, PartialEq, Eq)]
 pub struct Reading<'a> {
     /// The record count.
@@ -104,6 +146,8 @@ pub struct Reading<'a> {
     pub p: u32,
     /// Q of the fastest pace P/Q.
     pub q: u32,
+    /// The floor, which a roll marked AF has and one marked AQ has not.
+    pub floor: Option<Floor>,
     /// The records.
     pub part: &'a [u8],
 }
@@ -135,6 +179,12 @@ pub struct Numbers {
     pub p: u32,
     /// Q of the fastest pace P/Q.
     pub q: u32,
+    /// 1 where the roll is marked AF, 0 where it is marked AQ.
+    pub floor: u32,
+    /// R of the slowest pace R/T, 0 where there is none.
+    pub r: u32,
+    /// T of the slowest pace R/T, 0 where there is none.
+    pub t: u32,
     /// Where the part with the records starts in the roll.
     pub at: usize,
     /// The bytes of that part.
@@ -165,6 +215,22 @@ extern "C" {
         reference: u32,
         p: u32,
         q: u32,
+        rows: *mut u32,
+        rows_length: usize,
+    ) -> Reply;
+
+    fn vakrhildo_plan_floor(
+        arrivals: *const u32,
+        arrivals_length: usize,
+        deadlines: *const u32,
+        deadlines_length: usize,
+        operations: *const u32,
+        operations_length: usize,
+        reference: u32,
+        p: u32,
+        q: u32,
+        r: u32,
+        t: u32,
         rows: *mut u32,
         rows_length: usize,
     ) -> Reply;
@@ -203,7 +269,8 @@ fn written(number: u32, place: usize, many: usize) -> Result<usize, Refusal> {
 }
 
 /// Plans a list: arrival and deadline readings, operations, the reference, P and Q of the fastest pace
-/// P/Q. The rows stand at the front of `rows`; the numbers behind them stay as they were.
+/// P/Q. The rows stand at the front of `rows`; the numbers behind them stay as they were. There is no
+/// floor: a report may be drawn out as far as its room allows.
 pub fn plan(
     arrivals: &[u32],
     deadlines: &[u32],
@@ -246,7 +313,60 @@ pub fn plan_raw(
     }
 }
 
-/// Plans the list in a roll.
+/// Plans a list, as `plan` does, with a floor. Rule 16, R or T outside 1 to 65,535, and rule 17, R/T below
+/// P/Q, are tried directly after 4; where neither is given, the result and the rows are those of `plan`.
+/// What runs is not the rows: each report runs at the faster of its row's pace and R/T (`Row::runs_at`).
+#[allow(clippy::too_many_arguments)] // the library's own, in its order
+pub fn plan_floor(
+    arrivals: &[u32],
+    deadlines: &[u32],
+    operations: &[u32],
+    reference: u32,
+    p: u32,
+    q: u32,
+    floor: Floor,
+    rows: &mut [u32],
+) -> Result<usize, Refusal> {
+    let reply = plan_floor_raw(
+        arrivals, deadlines, operations, reference, p, q, floor, rows,
+    );
+    written(reply.number, reply.place, reply.blocks)
+}
+
+/// Plans a list with a floor, as `plan_floor` does: the library's own reply.
+#[allow(clippy::too_many_arguments)]
+pub fn plan_floor_raw(
+    arrivals: &[u32],
+    deadlines: &[u32],
+    operations: &[u32],
+    reference: u32,
+    p: u32,
+    q: u32,
+    floor: Floor,
+    rows: &mut [u32],
+) -> Reply {
+    // Safety: as in `plan_raw`.
+    unsafe {
+        vakrhildo_plan_floor(
+            arrivals.as_ptr(),
+            arrivals.len(),
+            deadlines.as_ptr(),
+            deadlines.len(),
+            operations.as_ptr(),
+            operations.len(),
+            reference,
+            p,
+            q,
+            floor.r,
+            floor.t,
+            rows.as_mut_ptr(),
+            rows.len(),
+        )
+    }
+}
+
+/// Plans the list in a roll: without a floor where it is marked AQ, with the trailer's where it is marked
+/// AF.
 pub fn plan_roll(roll: &[u8], rows: &mut [u32]) -> Result<usize, Refusal> {
     let reply = plan_roll_raw(roll, rows);
     written(reply.number, reply.place, reply.blocks)
@@ -261,12 +381,14 @@ pub fn plan_roll_raw(roll: &[u8], rows: &mut [u32]) -> Reply {
 /// Reads a roll: rules 10 to 13, then the trailer's numbers and the records, which are not copied.
 pub fn read(roll: &[u8]) -> Result<Reading<'_>, Refusal> {
     let numbers = read_raw(roll);
+    let (r, t) = (numbers.r, numbers.t);
     match numbers.number {
         0 => Ok(Reading {
             count: numbers.count,
             reference: numbers.reference,
             p: numbers.p,
             q: numbers.q,
+            floor: (numbers.floor != 0).then_some(Floor { r, t }),
             part: &roll[numbers.at..numbers.at + numbers.size],
         }),
         number => Err(Refusal { number, place: 0 }),
@@ -283,7 +405,8 @@ pub fn read_raw(roll: &[u8]) -> Numbers {
 /// back how many bytes were written; the bytes before and behind them stay as they were, and on a
 /// refusal all of them. `read` and `plan_roll` take `&out[..at + bytes]`, in which what stands before
 /// `at` is the preface. Rules 1 and 2 are tried, 4 for a P or Q above 65,535, then 15, too little room
-/// behind `at`; no other, so lists are written that have no plan.
+/// behind `at`; no other, so lists are written that have no plan. The roll is marked AQ: no floor is
+/// written.
 #[allow(clippy::too_many_arguments)] // the library's own, in its order
 pub fn write(
     arrivals: &[u32],
