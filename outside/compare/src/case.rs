@@ -2,10 +2,10 @@
 //! text for each, from which it can be run alone (`compare --case LINE`).
 
 use std::fmt::Write;
-use vakrhildo::{Numbers, Reply, WriteReply};
+use vakrhildo::{Floor, Numbers, Reply, Row, WriteReply};
 
 /// What a planner or a writer is handed; `room` is the length of the lent buffer: of the row buffer in
-/// numbers, of the one for a roll in bytes.
+/// numbers, of the one for a roll in bytes. A writer is handed no floor.
 #[derive(Clone, Debug, PartialEq, Eq)]
 pub struct List {
     pub arrivals: Vec<u32>,
@@ -14,6 +14,7 @@ pub struct List {
     pub reference: u32,
     pub p: u32,
     pub q: u32,
+    pub floor: Option<Floor>,
     pub room: usize,
 }
 
@@ -25,21 +26,25 @@ pub enum Case {
     Write { list: List, at: usize },
 }
 
-/// What is compared: the library's four functions, with the numbers that they give back as they came;
-/// the rows go to the front of the buffer, a roll from its place on. Where nothing else is said they are
-/// the proved ones. The lists and the roll are lent as if they could be changed, so that a wrong one can
-/// do so.
+/// What is compared: the library's five functions, with the numbers that they give back as they came, and
+/// the pace that a row's reports run at under a floor; the rows go to the front of the buffer, a roll from
+/// its place on. Where nothing else is said they are the proved ones. The lists and the roll are lent as
+/// if they could be changed, so that a wrong one can do so.
 pub trait Library {
+    /// Plans a list, by the function that takes a floor where there is one.
     fn plan(&self, l: &mut List, rows: &mut [u32]) -> Reply {
-        vakrhildo::plan_raw(
-            &l.arrivals,
-            &l.deadlines,
-            &l.operations,
-            l.reference,
-            l.p,
-            l.q,
-            rows,
-        )
+        let (arrivals, deadlines, operations) = (&l.arrivals, &l.deadlines, &l.operations);
+        let (reference, p, q) = (l.reference, l.p, l.q);
+        match l.floor {
+            None => vakrhildo::plan_raw(arrivals, deadlines, operations, reference, p, q, rows),
+            Some(floor) => vakrhildo::plan_floor_raw(
+                arrivals, deadlines, operations, reference, p, q, floor, rows,
+            ),
+        }
+    }
+
+    fn runs(&self, row: Row, floor: Floor) -> (u32, u32) {
+        row.runs_at(floor)
     }
 
     fn plan_roll(&self, roll: &mut [u8], rows: &mut [u32]) -> Reply {
@@ -84,23 +89,33 @@ fn hex(bytes: &[u8]) -> String {
 }
 
 impl List {
-    /// The list in a line: seven parts.
+    /// The list in a line: seven parts, and R and T where there is a floor.
     fn parts(&self) -> String {
+        let floor = self.floor.map(|Floor { r, t }| format!(":{r}:{t}"));
         format!(
-            "{}:{}:{}:{}:{}:{}:{}",
+            "{}:{}:{}:{}:{}:{}:{}{}",
             numbers(&self.arrivals),
             numbers(&self.deadlines),
             numbers(&self.operations),
             self.reference,
             self.p,
             self.q,
-            self.room
+            self.room,
+            floor.unwrap_or_default()
         )
     }
 
     fn parse(parts: &[&str]) -> Option<List> {
-        let &[a, d, w, reference, p, q, room] = parts else {
+        let &[a, d, w, reference, p, q, room, ref floor @ ..] = parts else {
             return None;
+        };
+        let floor = match *floor {
+            [] => None,
+            [r, t] => Some(Floor {
+                r: r.parse().ok()?,
+                t: t.parse().ok()?,
+            }),
+            _ => return None,
         };
         Some(List {
             arrivals: parse_numbers(a)?,
@@ -109,6 +124,7 @@ impl List {
             reference: reference.parse().ok()?,
             p: p.parse().ok()?,
             q: q.parse().ok()?,
+            floor,
             room: room.parse().ok()?,
         })
     }
@@ -164,7 +180,7 @@ fn parse_hex(text: &str) -> Option<Vec<u8>> {
 
 #[cfg(test)]
 mod tests {
-    use super::{Case, List};
+    use super::{Case, Floor, List};
 
     #[test]
     fn a_case_can_be_read_back() {
@@ -175,10 +191,19 @@ mod tests {
             reference: 4294967290,
             p: 2,
             q: 3,
+            floor: None,
             room: 11,
         };
+        let floor = Some(Floor {
+            r: 0,
+            t: 4294967295,
+        });
         for case in [
             Case::List(list.clone()),
+            Case::List(List {
+                floor,
+                ..list.clone()
+            }),
             Case::Roll {
                 bytes: vec![0, 255, 65],
                 room: 5,
@@ -192,6 +217,9 @@ mod tests {
             assert_eq!(Case::parse(&case.line()), Some(case));
         }
         for line in ["roll:0:5", "list:::::1:2", "write:::::1:2:3", "write"] {
+            assert_eq!(Case::parse(line), None);
+        }
+        for line in ["list::::1:2:3:4:5", "list::::1:2:3:4:5:6:7"] {
             assert_eq!(Case::parse(line), None);
         }
     }

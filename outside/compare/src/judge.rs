@@ -1,7 +1,7 @@
 //! Compares one case with the independent program: the three numbers as they came, every number of
 //! the row buffer and a margin on both sides of it, and, where a plan comes back, the plan with the
-//! definitions; for a roll also the seven numbers of the reader. What was lent to be read has to be as
-//! it was. The writer is compared in `write`.
+//! definitions, and what runs where there is a floor; for a roll also the ten numbers of the reader. What
+//! was lent to be read has to be as it was. The writer is compared in `write`.
 
 mod write;
 
@@ -12,7 +12,7 @@ use std::hint::black_box;
 use std::io::Write;
 use std::path::Path;
 use std::process::{Command, Stdio};
-use vakrhildo::{Numbers, Reply};
+use vakrhildo::{Floor, Numbers, Reply};
 
 /// Numbers before and behind the row buffer that must stay as they are.
 const MARGIN: usize = 8;
@@ -20,7 +20,7 @@ const MARGIN: usize = 8;
 /// How the library's answers are held against the definitions.
 #[derive(Clone, Copy)]
 pub struct Depth {
-    /// Properties 1 to 4 and the deadlines.
+    /// Properties 1 to 4 and the deadlines; with a floor also what runs.
     pub properties: bool,
     /// Sums at a threshold num/den, against rivals made from a seed.
     pub threshold: Option<(u64, u64, u64)>,
@@ -83,9 +83,30 @@ fn untouched<T: PartialEq>(lent: T, own: T) -> Result<(), String> {
     }
 }
 
+/// The paces that the library says run under a floor, held against the definitions.
+fn running(
+    library: &dyn Library,
+    floor: Floor,
+    reports: &Reports,
+    answer: &Answer,
+    tally: &mut Tally,
+) -> Result<(), String> {
+    let mut paces = Vec::new();
+    for row in vakrhildo::rows(&answer.rows.concat(), answer.rows.len()) {
+        let (ticks, operations) = library.runs(row, floor);
+        let pace = (i128::from(ticks), i128::from(operations));
+        paces.extend((row.first..=row.last).map(|_| pace));
+    }
+    oracle::check::run(reports, &answer.rows, &paces)?;
+    tally.runs += 1;
+    tally.hurried += u64::from(paces != oracle::check::paces(&answer.rows));
+    Ok(())
+}
+
 /// An accepted answer, held against the definitions.
 fn defined(
-    reports: &Reports,
+    library: &dyn Library,
+    l: &List,
     answer: &Answer,
     depth: Depth,
     tally: &mut Tally,
@@ -93,9 +114,13 @@ fn defined(
     if answer.number != 0 {
         return Ok(());
     }
+    let reports = &oracle::reports(&list_of(l));
     if depth.properties {
         oracle::check::plan(reports, &answer.rows)?;
         tally.plans += 1;
+        if let Some(floor) = l.floor {
+            running(library, floor, reports, answer, tally)?;
+        }
     }
     if let Some((num, den, seed)) = depth.threshold {
         tally.rivals += u64::from(oracle::check::least(reports, &answer.rows, num, den, seed)?);
@@ -111,6 +136,7 @@ fn list_of(l: &List) -> oracle::List<'_> {
         reference: l.reference,
         p: l.p,
         q: l.q,
+        floor: l.floor.map(|Floor { r, t }| (r, t)),
         room: l.room,
     }
 }
@@ -121,31 +147,34 @@ fn judge_list(
     depth: Depth,
     tally: &mut Tally,
 ) -> Result<u32, String> {
-    let list = list_of(l);
     tally.wrapped += u64::from(
         l.arrivals
             .iter()
             .chain(&l.deadlines)
             .any(|&reading| reading < l.reference),
     );
-    let answer = oracle::answer_list(&list);
+    let answer = oracle::answer_list(&list_of(l));
     let mut lent = l.clone();
     let (reply, memory) = run(l.room, |rows| library.plan(&mut lent, rows));
     same(&answer, reply, &memory)?;
     untouched(&lent, l)?;
-    defined(&oracle::reports(&list), &answer, depth, tally)?;
+    defined(library, l, &answer, depth, tally)?;
     Ok(answer.number)
 }
 
 /// The reader's numbers of a roll, and what is packed of them again.
 fn judge_reading(library: &dyn Library, bytes: &[u8], tally: &mut Tally) -> Result<(), String> {
     let reading = oracle::read_roll(bytes);
+    let (r, t) = reading.floor.unwrap_or((0, 0));
     let wanted = Numbers {
         number: reading.number,
         count: reading.count,
         reference: reading.reference,
         p: reading.p,
         q: reading.q,
+        floor: u32::from(reading.floor.is_some()),
+        r,
+        t,
         at: reading.at,
         size: reading.size,
     };
@@ -156,6 +185,9 @@ fn judge_reading(library: &dyn Library, bytes: &[u8], tally: &mut Tally) -> Resu
     }
     untouched(&lent[..], bytes)?;
     tally.readings[reading.number as usize] += 1;
+    if bytes.ends_with(b"AF") {
+        tally.floor_readings[reading.number as usize] += 1;
+    }
     write::packs_again(library, bytes, &reading, tally)
 }
 
@@ -234,8 +266,9 @@ pub fn judge(
     let number =
         judged.map_err(|what| format!("{what}\nrun it alone: compare --case {}", case.line()))?;
     let counts = match case {
+        Case::List(_) => &mut tally.lists,
+        Case::Roll { .. } | Case::Program { .. } => &mut tally.rolls,
         Case::Write { .. } => &mut tally.writings,
-        _ => &mut tally.answers,
     };
     counts[number as usize] += 1;
     Ok(())

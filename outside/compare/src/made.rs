@@ -1,11 +1,13 @@
 //! Makes the cases: 01's table, every small list, random lists small and large, near the line between
-//! accepted and refused, lists at the edges of each rule; in `roll`, rolls and inputs of the program; in
-//! `write`, lists that are to be written.
+//! accepted and refused, lists at the edges of each rule; in `floor`, lists with a floor; in `roll`, rolls
+//! and inputs of the program; in `write`, lists that are to be written.
 
+mod floor;
 mod roll;
 mod write;
 
-pub use roll::{damaged_sample, inputs, long_rolls, rolls};
+pub use floor::{floor_edges, floor_large, floor_small, floor_table, floors};
+pub use roll::{damaged_samples, floor_rolls, inputs, long_rolls, rolls, short_files};
 pub use write::{rolls_to_pack, write_edges, write_table, writings};
 
 use crate::case::{Case, List};
@@ -40,6 +42,8 @@ impl Dice {
 }
 
 const TOP: u64 = 2_147_483_647;
+/// Numbers of a pace on both sides of the line of refusal 4, and of 16.
+const PACES: [u32; 5] = [0, 1, 65_535, 65_536, u32::MAX];
 
 fn list(arrivals: &[u32], deadlines: &[u32], operations: &[u32], p: u32, q: u32) -> List {
     let room = 5 * arrivals.len();
@@ -50,6 +54,7 @@ fn list(arrivals: &[u32], deadlines: &[u32], operations: &[u32], p: u32, q: u32)
         reference: 0,
         p,
         q,
+        floor: None,
         room,
     }
 }
@@ -94,12 +99,12 @@ pub fn table(take: &mut Take) -> Done {
     Ok(())
 }
 
-/// Every list of up to three reports with arrivals 0 to 3, deadlines 0 to 5, operations 0 to 3, at three paces.
-pub fn small(take: &mut Take) -> Done {
+/// Gives every list of up to `most` reports with arrivals 0 to 3, deadlines 0 to 5, operations 0 to 3, at
+/// three paces.
+fn each_small(most: u32, give: &mut dyn FnMut(List) -> Done) -> Done {
     const REPORTS: u32 = 4 * 6 * 4;
     let report = |k: u32| (k % 4, k / 4 % 6, k / 24);
-    let mut seen = 0u64;
-    for n in 0..=3u32 {
+    for n in 0..=most {
         for code in 0..REPORTS.pow(n) {
             let reports: Vec<_> = (0..n)
                 .map(|i| report(code / REPORTS.pow(i) % REPORTS))
@@ -107,22 +112,30 @@ pub fn small(take: &mut Take) -> Done {
             let column = |f: fn(&(u32, u32, u32)) -> u32| reports.iter().map(f).collect::<Vec<_>>();
             for (p, q) in [(1, 1), (2, 1), (1, 2)] {
                 let l = list(&column(|r| r.0), &column(|r| r.1), &column(|r| r.2), p, q);
-                seen += 1;
-                let threshold =
-                    seen.is_multiple_of(101)
-                        .then_some((1 + seen % 13, 1 + seen % 5, seen));
-                take(
-                    "every list of up to 3 reports over small numbers",
-                    Case::List(l),
-                    Depth {
-                        properties: true,
-                        threshold,
-                    },
-                )?;
+                give(l)?;
             }
         }
     }
     Ok(())
+}
+
+/// The properties of a small list, and now and then sums at a small threshold.
+fn depth_of(seen: u64) -> Depth {
+    let threshold = (1 + seen % 13, 1 + seen % 5, seen);
+    Depth {
+        properties: true,
+        threshold: seen.is_multiple_of(101).then_some(threshold),
+    }
+}
+
+/// Every list of up to three reports over small numbers.
+pub fn small(take: &mut Take) -> Done {
+    let mut seen = 0;
+    each_small(3, &mut |l| {
+        seen += 1;
+        let group = "every list of up to 3 reports over small numbers";
+        take(group, Case::List(l), depth_of(seen))
+    })
 }
 
 /// Windows around the finishes at the fastest pace: most keep them barely, a few miss by a tick.
@@ -247,16 +260,22 @@ fn edge(dice: &mut Dice, rule: u64) -> List {
     l
 }
 
+/// A list at the edge of a rule, often at another one too.
+fn edged(dice: &mut Dice, rule: u64) -> List {
+    let mut l = edge(dice, rule);
+    match dice.below(6) {
+        0 => l.room = dice.below(5 * l.arrivals.len() as u64 + 20) as usize,
+        1 => l.room += dice.below(40) as usize,
+        2 => l.p = [0, 1, 65_535, 65_536][dice.below(4) as usize],
+        _ => {}
+    }
+    l
+}
+
 /// Lists at the edges of the rules 1 to 9, with buffers too short, just long enough and too long; often two edges at once.
 pub fn edges(take: &mut Take, dice: &mut Dice, times: u64) -> Done {
     for k in 0..times {
-        let mut l = edge(dice, 1 + k % 9);
-        match dice.below(6) {
-            0 => l.room = dice.below(5 * l.arrivals.len() as u64 + 20) as usize,
-            1 => l.room += dice.below(40) as usize,
-            2 => l.p = [0, 1, 65_535, 65_536][dice.below(4) as usize],
-            _ => {}
-        }
+        let l = edged(dice, 1 + k % 9);
         take("lists at the edges of the rules", Case::List(l), PROPERTIES)?;
     }
     Ok(())

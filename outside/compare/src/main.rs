@@ -33,14 +33,25 @@ fn groups(take: &mut Take, seed: u64) -> Result<(), String> {
         "random lists of up to 1,024 reports near the line",
     )?;
     made::edges(take, dice, 200_000)?;
+    floor_groups(take, dice)?;
     made::rolls(take, dice, 600_000)?;
-    made::damaged_sample(take)?;
-    made::long_rolls(take, dice, 300)?;
-    made::inputs(take, dice, 2_000)?;
+    made::floor_rolls(take, dice, 300_000)?;
+    made::damaged_samples(take)?;
+    made::short_files(take, dice, 100)?;
+    made::long_rolls(take, dice, 600)?;
+    made::inputs(take, dice, 4_000)?;
     made::writings(take, dice, 120_000)?;
     made::write_edges(take, dice, 80_000)?;
     made::write_table(take, dice)?;
     made::rolls_to_pack(take, dice, 20_000)
+}
+
+fn floor_groups(take: &mut Take, dice: &mut Dice) -> Result<(), String> {
+    made::floor_small(take)?;
+    made::floors(take, dice, 200_000)?;
+    made::floor_large(take, dice, 10_000)?;
+    made::floor_edges(take, dice, 100_000)?;
+    made::floor_table(take)
 }
 
 fn all(program: PathBuf, seed: u64) -> Result<(), String> {

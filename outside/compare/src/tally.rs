@@ -2,19 +2,26 @@
 
 use std::collections::BTreeMap;
 
-/// The numbers that the library and the program have, 0 to 15.
-pub const NUMBERS: usize = 16;
-/// Those of an answer, of the reader and of the writer.
-const OF_ANSWERS: [usize; 15] = [0, 1, 2, 3, 4, 5, 6, 7, 8, 9, 10, 11, 12, 13, 14];
+/// The numbers that the library and the program have, 0 to 17.
+pub const NUMBERS: usize = 18;
+/// Those of an answer for a list and for a roll, of the reader, also of rolls marked AF alone, and of the
+/// writer.
+const OF_LISTS: [usize; 12] = [0, 1, 2, 3, 4, 5, 6, 7, 8, 9, 16, 17];
+const OF_ROLLS: [usize; 16] = [0, 2, 3, 4, 5, 6, 7, 8, 9, 10, 11, 12, 13, 14, 16, 17];
 const OF_READINGS: [usize; 5] = [0, 10, 11, 12, 13];
+const OF_FLOOR_READINGS: [usize; 4] = [0, 10, 12, 13];
 const OF_WRITINGS: [usize; 5] = [0, 1, 2, 4, 15];
 
 #[derive(Default)]
 pub struct Tally {
-    /// Answers by number, 0 to 14.
-    pub answers: [u64; NUMBERS],
+    /// Answers for lists by number: 0 to 9, 16 and 17.
+    pub lists: [u64; NUMBERS],
+    /// Answers for rolls and for inputs of the program by number: 0, 2 to 14, 16 and 17.
+    pub rolls: [u64; NUMBERS],
     /// Rolls of which the reader's numbers were compared, by its number: 0 and 10 to 13.
     pub readings: [u64; NUMBERS],
+    /// Those of them that end in AF: 0, 10, 12 and 13.
+    pub floor_readings: [u64; NUMBERS],
     /// Lists that were to be written, by the writer's number: 0, 1, 2, 4 and 15.
     pub writings: [u64; NUMBERS],
     /// Rolls that were written, then read and planned as the lists that went in.
@@ -25,6 +32,10 @@ pub struct Tally {
     pub packed_again: u64,
     /// Accepted answers held against the definitions themselves.
     pub plans: u64,
+    /// Those of them with a floor, of which what runs was held against them too.
+    pub runs: u64,
+    /// Those of these in which some report runs faster than its row.
+    pub hurried: u64,
     /// Rival plans whose sum at a threshold was compared.
     pub rivals: u64,
     /// Lists in which the clock runs past its top: some reading is below the reference.
@@ -42,8 +53,10 @@ impl Tally {
     /// roll written and planned or read and packed again, a clock that runs past its top.
     pub fn rare(&self, least: u64) -> Vec<String> {
         let functions = [
-            ("answer", &self.answers, &OF_ANSWERS[..]),
+            ("answer for a list", &self.lists, &OF_LISTS[..]),
+            ("answer for a roll", &self.rolls, &OF_ROLLS),
             ("reading", &self.readings, &OF_READINGS),
+            ("reading of AF", &self.floor_readings, &OF_FLOOR_READINGS),
             ("writing", &self.writings, &OF_WRITINGS),
         ];
         let numbers = functions.iter().flat_map(|(kind, counts, numbers)| {
@@ -53,6 +66,8 @@ impl Tally {
         let others = [
             ("a roll written and planned", self.planned_back),
             ("a roll read and packed again", self.packed_again),
+            ("what runs under a floor", self.runs),
+            ("a report faster than its row", self.hurried),
             ("a clock that runs past its top", self.wrapped),
         ];
         numbers
@@ -77,6 +92,10 @@ impl Tally {
             self.readings.iter().sum::<u64>()
         );
         println!(
+            "{} of the plans have a floor, what runs held against the definitions too; in {} a report is faster than its row",
+            self.runs, self.hurried
+        );
+        println!(
             "{} lists in which the clock runs past its top",
             self.wrapped
         );
@@ -88,9 +107,19 @@ impl Tally {
             "{} rolls without preface read, then packed again",
             self.packed_again
         );
-        println!("answers by number: {}", by_number(&self.answers));
-        println!("readings by number: {}", by_number(&self.readings));
-        println!("writings by number: {}", by_number(&self.writings));
+        self.print_numbers();
+    }
+
+    fn print_numbers(&self) {
+        for (what, counts) in [
+            ("answers for lists", &self.lists),
+            ("answers for rolls", &self.rolls),
+            ("readings", &self.readings),
+            ("readings of rolls that end in AF", &self.floor_readings),
+            ("writings", &self.writings),
+        ] {
+            println!("{what} by number: {}", by_number(counts));
+        }
     }
 }
 
@@ -110,20 +139,33 @@ mod tests {
     #[test]
     fn what_is_rare_is_named() {
         let mut tally = Tally {
-            answers: [100; NUMBERS],
+            lists: [100; NUMBERS],
+            rolls: [100; NUMBERS],
             readings: [100; NUMBERS],
+            floor_readings: [100; NUMBERS],
             writings: [100; NUMBERS],
             planned_back: 100,
             packed_again: 100,
+            runs: 100,
+            hurried: 100,
             wrapped: 100,
             ..Tally::default()
         };
         assert!(tally.rare(100).is_empty());
         // no function gives these
-        (tally.answers[15], tally.readings[9], tally.writings[3]) = (0, 0, 0);
+        (tally.lists[15], tally.readings[9], tally.writings[3]) = (0, 0, 0);
+        (tally.rolls[1], tally.floor_readings[11]) = (0, 0);
         assert!(tally.rare(100).is_empty());
-        (tally.answers[14], tally.readings[13], tally.writings[15]) = (99, 99, 99);
-        assert_eq!(tally.rare(100), ["answer 14", "reading 13", "writing 15"]);
-        assert_eq!(Tally::default().rare(100).len(), 15 + 5 + 5 + 3);
+        (tally.lists[16], tally.rolls[17], tally.readings[13]) = (99, 99, 99);
+        (tally.floor_readings[10], tally.writings[15]) = (99, 99);
+        let named = [
+            "answer for a list 16",
+            "answer for a roll 17",
+            "reading 13",
+            "reading of AF 10",
+            "writing 15",
+        ];
+        assert_eq!(tally.rare(100), named);
+        assert_eq!(Tally::default().rare(100).len(), 12 + 16 + 5 + 4 + 5 + 5);
     }
 }

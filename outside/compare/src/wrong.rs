@@ -1,5 +1,7 @@
-//! Planners and readers that are wrong on purpose, and in `write` writers. The comparer has to catch each.
+//! Planners and readers that are wrong on purpose, in `floor` about a floor, and in `write` writers. The
+//! comparer has to catch each.
 
+pub mod floor;
 pub mod write;
 
 use crate::case::{Library, List, Proved};
@@ -56,11 +58,14 @@ pub const BYTE_SHORT: Readings = Readings(|numbers| numbers.size = numbers.size.
 pub struct Left(fn(&mut Numbers));
 
 /// Each number that can be left.
-pub const LEFT: [Left; 6] = [
+pub const LEFT: [Left; 9] = [
     Left(|numbers| numbers.count = 1),
     Left(|numbers| numbers.reference = 1),
     Left(|numbers| numbers.p = 1),
     Left(|numbers| numbers.q = 1),
+    Left(|numbers| numbers.floor = 1),
+    Left(|numbers| numbers.r = 1),
+    Left(|numbers| numbers.t = 1),
     Left(|numbers| numbers.at = 1),
     Left(|numbers| numbers.size = 1),
 ];

@@ -89,6 +89,9 @@ fn reads_back(library: &dyn Library, l: &List, roll: &[u8], at: usize) -> Result
         reference: l.reference,
         p: l.p,
         q: l.q,
+        floor: 0,
+        r: 0,
+        t: 0,
         at,
         size: 12 * count,
     };
@@ -108,10 +111,14 @@ fn reads_back(library: &dyn Library, l: &List, roll: &[u8], at: usize) -> Result
     Ok(())
 }
 
-/// It is planned as the list that went in, row for row. Whether that has a plan.
+/// It is planned as the list that went in, row for row, without a floor. Whether that has a plan.
 fn plans_back(library: &dyn Library, l: &List, roll: &[u8]) -> Result<bool, String> {
     let room = ROW * l.arrivals.len();
-    let wanted = run(room, |rows| library.plan(&mut l.clone(), rows));
+    let mut without = List {
+        floor: None,
+        ..l.clone()
+    };
+    let wanted = run(room, |rows| library.plan(&mut without, rows));
     let found = run(room, |rows| library.plan_roll(&mut roll.to_vec(), rows));
     if found != wanted {
         return Err(format!("planned back {found:?}, wanted {wanted:?}"));
@@ -119,15 +126,16 @@ fn plans_back(library: &dyn Library, l: &List, roll: &[u8]) -> Result<bool, Stri
     Ok(wanted.0.number == 0)
 }
 
-/// A roll without preface that was read, of at most 1,024 reports: what was read of it, packed at some
-/// place of a buffer, gives its bytes again.
+/// A roll without preface that was read, marked AQ, of at most 1,024 reports: what was read of it, packed
+/// at some place of a buffer, gives its bytes again.
 pub fn packs_again(
     library: &dyn Library,
     roll: &[u8],
     reading: &Reading,
     tally: &mut Tally,
 ) -> Result<(), String> {
-    if reading.number != 0 || reading.at != 0 || reading.count as usize > REPORTS {
+    let readable = reading.number == 0 && reading.count as usize <= REPORTS;
+    if !readable || reading.at != 0 || reading.floor.is_some() {
         return Ok(());
     }
     let carried = oracle::list_in(roll, reading);
@@ -140,6 +148,7 @@ pub fn packs_again(
         reference: reading.reference,
         p: reading.p,
         q: reading.q,
+        floor: None,
         room: at + bytes + 9,
     };
     let again = |before: &[u8]| Written {

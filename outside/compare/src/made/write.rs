@@ -2,14 +2,12 @@
 //! are packed again.
 
 use super::roll::roll_of;
-use super::{list, near, Dice, Done, Take};
+use super::{list, near, Dice, Done, Take, PACES};
 use crate::case::{Case, List};
 use crate::judge::ANSWER;
 
 /// Numbers at the edges of a byte, of two, and of four.
 const EDGES: [u32; 7] = [0, 1, 255, 256, 65_535, 65_536, u32::MAX];
-/// P or Q on both sides of the line of refusal 4.
-const PACES: [u32; 5] = [0, 1, 65_535, 65_536, u32::MAX];
 
 /// Any number, now and then one at an edge.
 fn any_number(dice: &mut Dice) -> u32 {
