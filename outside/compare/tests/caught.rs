@@ -2,9 +2,10 @@
 //! failing case can be run alone and fails again, and the proved library passes the same cases.
 
 use compare::case::{Case, Library, Proved};
-use compare::judge::{judge, Depth, ANSWER, PROPERTIES};
+use compare::judge::{judge, Depth, PROPERTIES};
 use compare::made::{self, Dice, Take};
 use compare::tally::Tally;
+use compare::wrong::floor::{self, Planner, Reader, RollPlanner};
 use compare::wrong::write::{self, Writer};
 use compare::wrong::{
     FirstAlike, FirstAtTies, ReaderTouches, Rounded, Spills, Touches, BLOCK_OF_A_REFUSAL,
@@ -23,6 +24,26 @@ fn lists(take: &mut Take) -> Result<(), String> {
 
 fn rolls(take: &mut Take) -> Result<(), String> {
     made::rolls(take, &mut Dice(7), 5_000)
+}
+
+fn floors(take: &mut Take) -> Result<(), String> {
+    let dice = &mut Dice(7);
+    made::floors(take, dice, 5_000)?;
+    made::floor_edges(take, dice, 5_000)?;
+    made::floor_table(take)
+}
+
+fn floor_rolls(take: &mut Take) -> Result<(), String> {
+    made::floor_rolls(take, &mut Dice(7), 5_000)
+}
+
+/// As rolls only: the tests have no program.
+fn short_files(take: &mut Take) -> Result<(), String> {
+    let mut rolls = |group, case: Case, depth| match case {
+        Case::Program { .. } => Ok(()),
+        _ => take(group, case, depth),
+    };
+    made::short_files(&mut rolls, &mut Dice(7), 20)
 }
 
 fn writings(take: &mut Take) -> Result<(), String> {
@@ -62,7 +83,7 @@ fn caught(library: &dyn Library, cases: Cases, reason: &str) {
         .nth(1)
         .expect("the message names its case");
     let case = Case::parse(line).expect("a case");
-    assert!(alone(library, &case, ANSWER).is_err());
+    assert!(alone(library, &case, PROPERTIES).is_err());
     assert_eq!(alone(&Proved, &case, PROPERTIES), Ok(()));
 }
 
@@ -73,6 +94,13 @@ fn the_proved_library_passes() {
     let tally = compared(&Proved, rolls).expect("no difference");
     assert_eq!(tally.cases(), 5_000);
     assert_eq!(tally.readings.iter().sum::<u64>(), 5_000);
+    let tally = compared(&Proved, floors).expect("no difference");
+    assert_eq!(tally.cases(), 5_000 + 5_000 + 10_000);
+    assert!(tally.lists[16] > 100 && tally.lists[17] > 100 && tally.hurried > 100);
+    let tally = compared(&Proved, floor_rolls).expect("no difference");
+    assert!(tally.rolls[16] > 100 && tally.rolls[17] > 100);
+    let tally = compared(&Proved, short_files).expect("no difference");
+    assert_eq!(tally.cases(), 25 * 2 * 20);
     let tally = compared(&Proved, writings).expect("no difference");
     assert_eq!(tally.writings.iter().sum::<u64>(), tally.cases());
     assert_eq!(tally.read_back, tally.writings[0]);
@@ -141,6 +169,89 @@ fn a_change_of_what_was_lent_to_be_read_is_caught() {
     caught(&Touches, lists, reason);
     caught(&Touches, rolls, reason);
     caught(&ReaderTouches, rolls, reason);
+}
+
+/// Planners that are wrong about a floor are caught by what they give back, and what that is.
+#[test]
+fn a_planner_that_is_wrong_about_a_floor_is_caught() {
+    let says = |planner: Planner, number: &str| {
+        let reason = format!("answered Reply {{ number: {number}, ");
+        caught(&planner, floors, &reason);
+    };
+    says(floor::TURNED, "17");
+    says(floor::EQUAL_REFUSED, "17");
+    says(floor::SIXTEEN_BEFORE_FOUR, "16");
+    says(floor::SEVENTEEN_BEFORE_SIXTEEN, "17");
+    says(floor::FIVE_FIRST, "5");
+    caught(&floor::EXCHANGED, floors, "answered Reply");
+    caught(&floor::LOST, floors, "wanted Reply { number: 1");
+    caught(&floor::T_NOT_TRIED, floors, "wanted Reply { number: 16, ");
+    caught(&floor::ON_ROWS, floors, "of the buffer is");
+}
+
+#[test]
+fn another_pace_than_runs_is_caught() {
+    caught(&floor::SLOWER, floors, "the pace that runs is above");
+    caught(
+        &floor::AS_IN_ITS_ROW,
+        floors,
+        "the pace that runs is above R/T",
+    );
+    caught(
+        &floor::AT_THE_FLOOR,
+        floors,
+        "the pace that runs is above its row's",
+    );
+}
+
+/// Readers of rolls marked AF, and planners of them, and what they say.
+#[test]
+fn a_roll_with_a_floor_that_is_read_wrong_is_caught() {
+    let says = |reader: Reader, planner: RollPlanner, number: &str, cases: Cases| {
+        let reason = format!("read Numbers {{ number: {number}, ");
+        caught(&reader, cases, &reason);
+        let reason = format!("answered Reply {{ number: {number}, ");
+        caught(&planner, cases, &reason);
+    };
+    says(
+        floor::TRAILER_OF_16,
+        floor::PLANS_TRAILER_OF_16,
+        "12",
+        floor_rolls,
+    );
+    says(
+        floor::WRONG_MARK,
+        floor::PLANS_WRONG_MARK,
+        "11",
+        floor_rolls,
+    );
+    says(
+        floor::SHORT_AT_16,
+        floor::PLANS_SHORT_AT_16,
+        "12",
+        short_files,
+    );
+    says(
+        floor::TRAILER_OF_16,
+        floor::PLANS_TRAILER_OF_16,
+        "12",
+        short_files,
+    );
+    caught(
+        &floor::T_BEFORE_R,
+        floor_rolls,
+        "read Numbers { number: 0, ",
+    );
+    caught(&floor::PLANS_T_BEFORE_R, floor_rolls, "answered Reply");
+    caught(&floor::FLOOR_NOT_SAID, floor_rolls, "floor: 0, ");
+    caught(&floor::FLOOR_LOST, floor_rolls, "wanted Reply { number: 1");
+}
+
+#[test]
+fn a_floor_of_a_roll_without_one_is_caught() {
+    for reader in floor::FLOOR_OF_AQ {
+        caught(&reader, rolls, "read Numbers { number: 0, ");
+    }
 }
 
 /// Writers that are caught by the bytes of the buffer, or of the margins.
