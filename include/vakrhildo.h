@@ -61,10 +61,10 @@ vakrhildo_reply vakrhildo_plan(const uint32_t *arrivals, size_t arrivals_length,
 
 /* Plans a list as vakrhildo_plan does, with a floor: R/T is the slowest pace, in ticks per operation.
    Refusals 16 and 17 are tried too; where neither is given, the reply and the rows are those that
-   vakrhildo_plan gives. What runs is not the rows: each report runs at the faster of its row's pace, (end
-   - start) / operations, and R/T. Its start is the later of its arrival and the finish of the report
-   before, its finish its start plus its operations times that pace. So a row's reports may be done before
-   the row's end, and none finishes later than in the row. */
+   vakrhildo_plan gives. What runs is not the rows: each report runs at the faster of R/T and its row's
+   pace, (end - start) / operations. Its start is the later of its arrival and the finish of the report
+   before; its finish is its start plus its operations times the pace it runs at. So a row's reports may be
+   done before the row's end, and none finishes later than in the row. */
 vakrhildo_reply vakrhildo_plan_floor(const uint32_t *arrivals, size_t arrivals_length,
                                      const uint32_t *deadlines, size_t deadlines_length,
                                      const uint32_t *operations, size_t operations_length,

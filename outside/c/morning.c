@@ -1,10 +1,14 @@
-/* Plans one crowded morning of three reports, reads and plans a roll that comes on standard input, then
-   writes the morning's roll behind that one and plans it from there. */
+/* Plans one crowded morning of three reports, without a floor and with one, reads and plans a roll that
+   comes on standard input, and the same with a floor in its trailer, then writes the morning's roll behind
+   that one and plans it from there. */
 #include <stdio.h>
 #include "vakrhildo.h"
 
 static uint32_t rows[VAKRHILDO_ROW * VAKRHILDO_REPORTS];
 static uint8_t roll[65536 + VAKRHILDO_ROLL];
+/* One report, from 0 to 10 with four operations, at P/Q = 1/1 and with the floor 3/2. */
+static const uint8_t floored[] = "\0\0\0\0\x0a\0\0\0\4\0\0\0"
+                                 "\3\0\2\0\x20\0\0\0\0\0\0\0\1\0\1\0\1\0" "AF";
 
 static void show(vakrhildo_reply reply)
 {

@@ -39,7 +39,7 @@ fn groups(take: &mut Take, seed: u64) -> Result<(), String> {
     made::damaged_samples(take)?;
     made::short_files(take, dice, 100)?;
     made::long_rolls(take, dice, 600)?;
-    made::inputs(take, dice, 4_000)?;
+    made::inputs(take, dice, 3_000)?;
     made::writings(take, dice, 120_000)?;
     made::write_edges(take, dice, 80_000)?;
     made::write_table(take, dice)?;
@@ -49,8 +49,8 @@ fn groups(take: &mut Take, seed: u64) -> Result<(), String> {
 fn floor_groups(take: &mut Take, dice: &mut Dice) -> Result<(), String> {
     made::floor_small(take)?;
     made::floors(take, dice, 200_000)?;
-    made::floor_large(take, dice, 10_000)?;
-    made::floor_edges(take, dice, 100_000)?;
+    made::floor_large(take, dice, 6_000)?;
+    made::floor_edges(take, dice, 25_000)?;
     made::floor_table(take)
 }
 

@@ -1,6 +1,6 @@
-//! Plans one crowded morning of three reports, says what a refusal means, then writes a roll behind a
-//! preface and plans it from there.
-use vakrhildo::{plan, plan_roll, rows, write, Refusal, REPORTS, ROLL, ROW};
+//! Plans one crowded morning of three reports, says what a refusal means and what runs under a floor, then
+//! writes a roll behind a preface and plans it from there.
+use vakrhildo::{plan, plan_floor, plan_roll, rows, write, Floor, Refusal, REPORTS, ROLL, ROW};
 
 const PREFACE: &[u8] = b"typed at eight";
 
@@ -18,6 +18,22 @@ fn show(planned: Result<usize, Refusal>, buffer: &[u32]) {
     }
 }
 
+/// Plans the morning with a floor of three ticks an operation: the same rows, of which the second runs
+/// faster.
+fn floored(buffer: &mut [u32]) -> Result<(), Refusal> {
+    let floor = Floor { r: 3, t: 1 };
+    let (arrivals, deadlines, operations) = ([0, 0, 12], [4, 20, 16], [2, 2, 2]);
+    let blocks = plan_floor(&arrivals, &deadlines, &operations, 0, 1, 1, floor, buffer)?;
+    for row in rows(buffer, blocks) {
+        let (ticks, operations) = row.runs_at(floor);
+        println!(
+            "reports {} to {} run at {ticks}/{operations} ticks per operation",
+            row.first, row.last
+        );
+    }
+    Ok(())
+}
+
 fn main() {
     let mut buffer = [0u32; ROW * REPORTS];
     // arrivals, deadlines, operations; reference 0; at most one operation a tick
@@ -25,6 +41,10 @@ fn main() {
     show(planned, &buffer);
     let planned = plan(&[0], &[4], &[5], 0, 1, 1, &mut buffer);
     show(planned, &buffer);
+
+    if let Err(refusal) = floored(&mut buffer) {
+        println!("{refusal}");
+    }
 
     let at = PREFACE.len();
     let mut out = [0u8; PREFACE.len() + ROLL];
