@@ -216,9 +216,14 @@ mod tests {
         ] {
             assert_eq!(Case::parse(&case.line()), Some(case));
         }
+    }
+
+    #[test]
+    fn a_line_that_is_no_case_is_not_read() {
         for line in ["roll:0:5", "list:::::1:2", "write:::::1:2:3", "write"] {
             assert_eq!(Case::parse(line), None);
         }
+        // one number of a floor, and three
         for line in ["list::::1:2:3:4:5", "list::::1:2:3:4:5:6:7"] {
             assert_eq!(Case::parse(line), None);
         }

@@ -92,7 +92,7 @@ impl Tally {
             self.readings.iter().sum::<u64>()
         );
         println!(
-            "{} of the plans have a floor, what runs held against the definitions too; in {} a report is faster than its row",
+            "{} of the plans with a floor, what runs held against them too; in {} a report is faster than its row",
             self.runs, self.hurried
         );
         println!(

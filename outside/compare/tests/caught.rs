@@ -237,6 +237,10 @@ fn a_roll_with_a_floor_that_is_read_wrong_is_caught() {
         "12",
         short_files,
     );
+}
+
+#[test]
+fn a_floor_of_a_roll_that_is_not_its_own_is_caught() {
     caught(
         &floor::T_BEFORE_R,
         floor_rolls,

@@ -1,4 +1,4 @@
-//! Lists with a floor: next to P/Q on both sides and equal to it, as close as cross products can be, slower by
+//! Lists with a floor: next to P/Q on both sides, as close as cross products can be, equal to it, slower by
 //! some, with numbers at the edges, and none; alone and together with the edges of the other rules.
 
 use super::{depth_of, each_small, edged, list, near, Dice, Done, Take, PACES, TOP};
@@ -32,7 +32,7 @@ fn beside(p: u64, q: u64) -> [(u64, u64); 3] {
 }
 
 /// A floor next to P/Q, or equal to it. P/Q in lowest terms is added to it some times, which leaves it as
-/// close by cross products.
+/// close by cross products; at least once, as a number may be 0 before. Where that is past 65,535, so be it.
 fn next_to(dice: &mut Dice, p: u32, q: u32, side: Side) -> Floor {
     let [below, (p, q), above] = beside(u64::from(p), u64::from(q));
     let (r, t) = match side {

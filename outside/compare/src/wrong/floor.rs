@@ -56,8 +56,7 @@ fn not_read(number: u32) -> Numbers {
     }
 }
 
-/// The reply for a list by the rules before 16 and 17 where one of them is given, else by all without a
-/// floor; a refusal has written nothing, and here nothing is written at all.
+/// The reply for a list without its floor; nothing is written.
 fn unfloored(l: &List, room: usize) -> Reply {
     let mut without = List {
         floor: None,
@@ -84,8 +83,8 @@ fn outside(floor: Floor) -> bool {
     !inside.contains(&floor.r) || !inside.contains(&floor.t)
 }
 
-/// Plans without a floor where the reply has a number, or gives a number where there is none of the rules
-/// before; `given` says which, of the floor and of the reply.
+/// Answers as `given` says of a list, its floor and the proved reply: with a refusal of this number, for 0
+/// as if there were no floor, else as the proved planner does.
 fn regiven(l: &mut List, rows: &mut [u32], given: fn(&List, Floor, Reply) -> Option<u32>) -> Reply {
     let Some(floor) = l.floor else {
         return Proved.plan(l, rows);
