@@ -39,7 +39,7 @@ fn groups(take: &mut Take, seed: u64) -> Result<(), String> {
     made::damaged_samples(take)?;
     made::short_files(take, dice, 100)?;
     made::long_rolls(take, dice, 600)?;
-    made::inputs(take, dice, 3_000)?;
+    made::inputs(take, dice, 4_000)?;
     made::writings(take, dice, 120_000)?;
     made::write_edges(take, dice, 80_000)?;
     made::write_table(take, dice)?;
