@@ -13,7 +13,6 @@ use Rattle.trials.specs.Tries.{Tells}
 use Rattle.trials.proofs.Trying.{tells-yes}
 use Rattle.trials.proofs.Deciding.{Decidable}
 use Rattle.fraction.proofs.Scale.{cases}
-use Rattle.rules.specs.declared.Floor.{Floor}
 use Rattle.rules.specs.declared.Floor.the-variants.{Absent, Slowest}
 use Rattle.roll.specs.Format.{rOf, tOf, mark, endsIn, hasFloor, trailerLong, floorOf, Marked}
 

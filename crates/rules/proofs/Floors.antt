@@ -1,9 +1,9 @@
 -- A floor that may be absent: what is told of it, what can be decided of it, and what rule 17 leaves.
 -- Assumes nothing.
 use Prim.Native.Nat.{ℕ, _*_, _<_, max}
-use mathlib.Core.Path.{_≡_, sym, ap₂, subst}
+use mathlib.Core.Path.{_≡_, sym, subst}
 use mathlib.Core.Bool.{Bool, false, true≢false}
-use mathlib.Core.Logic.{_⊎_, inl, inr}
+use mathlib.Core.Logic.{inl, inr}
 use native.Mathlib.Decide.{decLt}
 use lib.Dec.{ltb}
 use Rattle.trials.specs.Tries.{Tells}

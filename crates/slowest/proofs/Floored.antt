@@ -1,11 +1,11 @@
 -- A plan run with a slowest pace: it is allowed, its sums up to the slowest pace are those of the plan itself, and above it they grow as those of every plan that is no slower.
 -- Assumes nothing.
-use Prim.Native.Nat.{ℕ, _<_}
+use Prim.Native.Nat.{ℕ}
 use mathlib.Core.Option.{Option, none, some}
 use native.Mathlib.Nat.{lt-suc-self}
 use Rattle.fraction.specs.Fraction.{Fraction, _≼_, _≈_, plus, less}
 use Rattle.fraction.proofs.Order.{≼-refl, ≼-trans, ≈-refl, ≈-trans, ≈-≼, ≈-≽, ≺-≼, split, plus-≼, positive-up, sooner-≼-left, sooner-≼-right, ≼-sooner, sooner-positive, less-sooner, less-by-way}
-use Rattle.critical.specs.Reports.{Reports, Paces, Positive, finish, Keeps, Allowed}
+use Rattle.critical.specs.Reports.{Reports, Paces, Positive, finish, Allowed}
 use Rattle.critical.specs.Cost.{total, sumAt}
 use Rattle.critical.proofs.Room.{finish-≼}
 use Rattle.slowest.specs.Slowest.{capped, floored, UpTo, NoSlower}

@@ -1,7 +1,7 @@
 -- `roll::part_of` meets its contract: the part between the back distance and the trailer.
 -- Assumes nothing.
 use borrow.Author.Needs.{needs}
-use Prim.Native.Nat.{ℕ, _+_, _*_, _-_}
+use Prim.Native.Nat.{_+_, _*_, _-_}
 use mathlib.Core.Path.{_≡_, refl, _∙_}
 use native.Mathlib.Omega.{arith}
 use Rattle.roll.proofs.FileRules.{FileHas, file-has, fits-part, reaches, part-size, cut-part}

@@ -1,6 +1,5 @@
 -- `roll::marks::floor_of` meets its contract: R and T, where the mark says that they are there.
 -- Assumes nothing.
-use borrow.Author.Needs.{needs}
 use Prim.Native.Nat.{ℕ, _≤_}
 use mathlib.Core.Path.{_≡_, sym, _∙_, ap₂}
 use mathlib.Core.Bool.{true}
