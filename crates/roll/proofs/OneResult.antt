@@ -1,9 +1,10 @@
 -- The promises of the roll's reader and of `plan_roll` allow one result for each string of bytes, and for `plan_roll` there is one: the file rules decide each.
 -- Assumes nothing.
 use Prim.Native.Nat.{ℕ}
-use mathlib.Core.Path.{_≡_, sym, _∙_, ap}
+use mathlib.Core.Path.{_≡_, refl, sym, _∙_, ap, ap₂}
 use mathlib.Core.List.{List}
 use mathlib.Core.Logic.{_⊎_, ⊎-elim}
+use native.Mathlib.Omega.{arith}
 use denote.Ref.{RefT}
 use Rattle.trials.specs.Rules.{Accepted, Refused}
 use Rattle.trials.proofs.Passing.{Passed, last-part}
@@ -13,6 +14,7 @@ use Rattle.rules.specs.Offsets.{Input, reportsOf, fastestOf}
 use Rattle.rules.specs.Rules.{planRules}
 use Rattle.rules.specs.declared.Roll.{Roll}
 use Rattle.rules.specs.declared.Floor.{Floor}
+use Rattle.rules.specs.declared.Floor.the-variants.{Absent, Slowest}
 use Rattle.answers.specs.Numbers.{numberOf, placeOf, blocksOf, Proper}
 use Rattle.answers.specs.declared.Answer.{Answer}
 use Rattle.answers.proofs.Replies.{same-answer}
@@ -21,7 +23,7 @@ use Rattle.planner.proofs.SomeResult.{some-result}
 use Rattle.planner.proofs.Outcomes.{hands-up, goes-on}
 use Rattle.rules.proofs.Table.{one-plan-rule, works}
 use Rattle.roll.specs.Format.{fileRules, inputOf, rollRules, RollOutcome}
-use Rattle.roll.specs.Answers.{TrailerAnswerIs, TrailerIs, EndingIs, NumbersRead, NumbersIs, PartFrom, PartIs}
+use Rattle.roll.specs.Answers.{floorNumbers, TrailerAnswerIs, TrailerIs, EndingIs, NumbersRead, NumbersIs, PartFrom, PartIs}
 use Rattle.roll.specs.declared.Trailer.{Trailer}
 use Rattle.roll.specs.declared.Ending.{Ending}
 use Rattle.roll.specs.declared.FloorNumbers.{FloorNumbers}
@@ -118,6 +120,14 @@ one-part-from v w = (v .bytes ∙ sym (w .bytes), v .lies ∙ sym (w .lies))
 -- The promise of `records` allows one part for each string of bytes, where it lies.
 pub one-part : (s a b : RefT (List ℕ)) → PartIs s a → PartIs s b → SameSlice a b
 one-part s a b v w = by-file (s .now) (SameSlice a b) (λ q. one-part-from (v .accepted q) (w .accepted q)) (λ number place q. one-part-from (v .refused number place q) (w .refused number place q))
+
+-- ---- a floor in numbers
+-- The numbers of a floor tell which it is: an AF roll with R and T 0 is told from an AQ roll, which has none.
+pub floor-told : (a b : Floor) → floorNumbers a ≡ floorNumbers b → a ≡ b
+floor-told Absent Absent e = refl
+floor-told Absent (Slowest r t) e = absurd (omega (arith, ap (λ (n : FloorNumbers). n .given) e))
+floor-told (Slowest r t) Absent e = absurd (omega (arith, ap (λ (n : FloorNumbers). n .given) e))
+floor-told (Slowest r t) (Slowest r′ t′) e = ap₂ (λ (x y : ℕ). Slowest x y) (ap (λ (n : FloorNumbers). n .r) e) (ap (λ (n : FloorNumbers). n .t) e)
 
 -- ---- read_numbers, and read
 numbers : ℕ → Trailer → FloorNumbers → ℕ → ℕ → Numbers
