@@ -112,14 +112,6 @@ a-well-formed-list-is-refused-exactly-when-there-is-no-plan x (suc k) place bloc
     let nine = refused-by-nine (reportsOf x) (fastestOf x) (suc k) place (refused-behind (earlierRules x) (planRule (reportsOf x) (fastestOf x) ∷ []) (suc k) place w (o .0)) in
     (λ h plan. not-both (reportsOf x) (fastestOf x) place plan (nine .1), λ none. omega arith)
 
--- With a floor that is the same question: there is a plan exactly when there is one that is no slower than R/T.
-pub and-there-is-one-exactly-when-there-is-one-no-slower-than-the-floor :
-    (x : Input) → WellFormed x →
-    Plannable (reportsOf x) (fastestOf x) ↔ PlannableWithin (reportsOf x) (fastestOf x) (slowestOf x)
-and-there-is-one-exactly-when-there-is-one-no-slower-than-the-floor x w =
-    let p : Passed (earlierRules x) = record { accepted = w } in
-    plan-within (reportsOf x) (fastestOf x) (slowestOf x) (floor-above x p) (pace-positive x p)
-
 -- The refusal is then number 9, and its place the least i such that reports 0 to i by themselves have no allowed plan.
 pub and-at-the-first-report-without-one :
     (x : Input) (number place blocks : ℕ) (after : List ℕ) →
@@ -129,6 +121,14 @@ unfolding Outcome
 and-at-the-first-report-without-one x zero place blocks after w h o = absurd (omega arith)
 and-at-the-first-report-without-one x (suc k) place blocks after w h o =
     refused-by-nine (reportsOf x) (fastestOf x) (suc k) place (refused-behind (earlierRules x) (planRule (reportsOf x) (fastestOf x) ∷ []) (suc k) place w (o .0))
+
+-- With a floor that is the same question: there is a plan exactly when there is one that is no slower than R/T.
+pub and-there-is-one-exactly-when-there-is-one-no-slower-than-the-floor :
+    (x : Input) → WellFormed x →
+    Plannable (reportsOf x) (fastestOf x) ↔ PlannableWithin (reportsOf x) (fastestOf x) (slowestOf x)
+and-there-is-one-exactly-when-there-is-one-no-slower-than-the-floor x w =
+    let p : Passed (earlierRules x) = record { accepted = w } in
+    plan-within (reportsOf x) (fastestOf x) (slowestOf x) (floor-above x p) (pace-positive x p)
 
 -- ---- The inspector's three questions
 

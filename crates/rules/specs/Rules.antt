@@ -41,18 +41,12 @@ OfFloor Absent P = ⊥
 OfFloor (Slowest r t) P = P r t
 
 -- 16: R or T outside 1 to 65,535.
-abbrev pub BadFloor : Floor → Type 0
-BadFloor floor = OfFloor floor (λ r t. BadPace r t)
-
 abbrev pub floorRule : Floor → Rule
-floorRule floor = rule 16 (Overall (BadFloor floor))
+floorRule floor = rule 16 (Overall (OfFloor floor (λ r t. BadPace r t)))
 
 -- 17: R/T below P/Q.
-abbrev pub FloorBelow : Floor → Roll → Type 0
-FloorBelow floor terms = OfFloor floor (λ r t. over r t ≺ paceOf terms)
-
 abbrev pub belowRule : Floor → Roll → Rule
-belowRule floor terms = rule 17 (Overall (FloorBelow floor terms))
+belowRule floor terms = rule 17 (Overall (OfFloor floor (λ r t. over r t ≺ paceOf terms)))
 
 -- In their order.
 abbrev pub countRules : ℕ → ℕ → ℕ → Roll → Floor → ℕ → List Rule

@@ -10,7 +10,9 @@ ghost use mathlib.Core.Logic.{_⊎_};
 ghost use Prim.Native.Nat.{_*_, _<_, max};
 ghost use Rattle.answers.specs.Numbers.{width};
 ghost use Rattle.trials.specs.Tries.{Tells, After};
-ghost use Rattle.rules.specs.Rules.{BadPace, BadFloor, FloorBelow, countRules};
+ghost use Rattle.fraction.specs.Fraction.{_≺_, over};
+ghost use Rattle.rules.specs.Offsets.{paceOf};
+ghost use Rattle.rules.specs.Rules.{BadPace, OfFloor, countRules};
 
 // A report, by its offsets.
 pub struct Report {
@@ -95,7 +97,7 @@ fn bad_pace(upper: u32, lower: u32) -> bool
 
 // Whether there is a floor, and its R or T is such a number.
 fn bad_floor(floor: Floor) -> bool
-    ensures { λ r. ⌜ Tells (BadFloor floor) r ⌝ }
+    ensures { λ r. ⌜ Tells (OfFloor floor (λ x y. BadPace x y)) r ⌝ }
 {
     let Floor::Slowest(r, t) = floor else {
         return false;
@@ -116,7 +118,7 @@ fn at_least_one(lower: u32) -> u32
 
 // Whether there is a floor, and it is below P/Q.
 fn floor_below(floor: Floor, terms: Roll) -> bool
-    ensures { λ r. ⌜ Tells (FloorBelow floor terms) r ⌝ }
+    ensures { λ r. ⌜ Tells (OfFloor floor (λ x y. over x y ≺ paceOf terms)) r ⌝ }
 {
     let Floor::Slowest(r, t) = floor else {
         return false;
