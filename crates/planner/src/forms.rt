@@ -1,5 +1,5 @@
-// Rules 5 to 8, tried in their order, as rules 1 to 4 are by rules::count_rules: two lines a rule,
-// whether it is given, and or_if.
+// Rules 5 to 8, tried in their order, as those of the whole list are by rules::count_rules: two lines a
+// rule, whether it is given, and or_if.
 use answers::Refusal;
 use rules::Report;
 use trials::Verdict;

@@ -65,9 +65,9 @@ pub extern "C" fn vakrhildo_plan_floor(
 ) -> Reply
     ensures { λ reply. ⌜ PlanOutcome (record { arrivals = now (arrivals .entry); deadlines = now (deadlines .entry); operations = now (operations .entry); terms = record { reference = reference; p = p; q = q }; floor = Slowest r t; buffer = now (rows .entry) }) (reply .number) (reply .place) (reply .blocks) (now (rows .exit)) ⌝ }
 {
-    let list_terms = Roll { reference, p, q };
+    let terms = Roll { reference, p, q };
     let floor = Floor::Slowest(r, t);
-    planned(arrivals, deadlines, operations, list_terms, floor, rows)
+    planned(arrivals, deadlines, operations, terms, floor, rows)
 }
 
 // Plans the list in a roll, by all the rules, file rules first.
