@@ -20,13 +20,6 @@ max-high h = omega arith
 pub max-low : {a b : ℕ} → b ≤ a → max a b ≡ a
 max-low h = omega arith
 
--- the lesser of two numbers, where it is known which
-pub min-low : {a b : ℕ} → a ≤ b → min a b ≡ a
-min-low h = omega arith
-
-pub min-high : {a b : ℕ} → b ≤ a → min a b ≡ b
-min-high h = omega arith
-
 -- f is X at scale M
 pub record At (M : ℕ) (f : Fraction) (X : ℕ) : Type 0 where
   pub at : f .num * M ≡ X * f .den
@@ -98,19 +91,28 @@ module _ {M : ℕ} {f g : Fraction} {X Y : ℕ} (pos : 0 < M) (p : At M f X) (q 
   pub at-eq : X ≡ Y → f ≈ g
   at-eq h = record { cross = le-antisymm (at-le p q pos (omega arith) .cross) (at-le q p pos (omega arith) .cross) }
 
+  -- what stands over both lower numbers and is the one fraction, or the other, is so at the scale
+  at-first : (n Z : ℕ) → n ≡ f .num * g .den → Z ≡ X → n * M ≡ Z * (f .den * g .den)
+  at-first n Z e z = omega (arith, ap (_*_ (g .den)) (p .at), ap (_*_ M) e, ap (_*_ (f .den * g .den)) z)
+
+  at-second : (n Z : ℕ) → n ≡ g .num * f .den → Z ≡ Y → n * M ≡ Z * (f .den * g .den)
+  at-second n Z e z = omega (arith, ap (_*_ (f .den)) (q .at), ap (_*_ M) e, ap (_*_ (f .den * g .den)) z)
+
   pub at-later : At M (later f g) (max X Y)
   unfolding later
-  at-later =
-      cases X Y
-      (λ h. let l : X ≤ Y = omega arith in omega (arith, ap (_*_ (f .den)) (q .at), ap (_*_ M) (max-high (at-le p q pos l .cross)), ap (_*_ (f .den * g .den)) (max-high l)))
-      (λ h. omega (arith, ap (_*_ (g .den)) (p .at), ap (_*_ M) (max-low (at-le q p pos h .cross)), ap (_*_ (f .den * g .den)) (max-low h)))
+  at-later = record {
+    at = cases X Y
+        (λ h. at-second _ _ (omega (arith, at-le p q pos (omega (arith, h)) .cross)) (omega (arith, h)))
+        (λ h. at-first _ _ (omega (arith, at-le q p pos h .cross)) (omega (arith, h)));
+  }
 
   pub at-sooner : At M (sooner f g) (min X Y)
   unfolding sooner
-  at-sooner =
-      cases X Y
-      (λ h. let l : X ≤ Y = omega arith in omega (arith, ap (_*_ (g .den)) (p .at), ap (_*_ M) (min-low (at-le p q pos l .cross)), ap (_*_ (f .den * g .den)) (min-low l)))
-      (λ h. omega (arith, ap (_*_ (f .den)) (q .at), ap (_*_ M) (min-high (at-le q p pos h .cross)), ap (_*_ (f .den * g .den)) (min-high h)))
+  at-sooner = record {
+    at = cases X Y
+        (λ h. at-first _ _ (omega (arith, at-le p q pos (omega (arith, h)) .cross)) (omega (arith, h)))
+        (λ h. at-second _ _ (omega (arith, at-le q p pos h .cross)) (omega (arith, h)));
+  }
 
   pub at-less : At M (less f g) (X - Y)
   unfolding less

@@ -76,8 +76,11 @@ module _ (s : List ℕ) where
   pub not-unmarked : Marked s → Tells (Marked s → ⊥) false
   not-unmarked m = record { yes = λ e. absurd (true≢false (sym e)); no = λ _ n. n m }
 
+  pub neither : endsIn s mark ≡ false → hasFloor s ≡ false → Marked s → ⊥
+  neither e f m = ⊎-elim (λ g. true≢false (sym g ∙ e)) (λ g. true≢false (sym g ∙ f)) (m .is)
+
   pub is-unmarked : endsIn s mark ≡ false → hasFloor s ≡ false → Tells (Marked s → ⊥) true
-  is-unmarked e f = tells-yes (λ m. ⊎-elim (λ g. true≢false (sym g ∙ e)) (λ g. true≢false (sym g ∙ f)) (m .is))
+  is-unmarked e f = tells-yes (neither e f)
 
 unfoldable pub dec-marked : {s : List ℕ} → Decidable (Marked s)
 dec-marked {s} = record { decided = go (endsIn s mark) refl (hasFloor s) refl }
@@ -85,4 +88,4 @@ dec-marked {s} = record { decided = go (endsIn s mark) refl (hasFloor s) refl }
     go : (a : Bool) → endsIn s mark ≡ a → (b : Bool) → hasFloor s ≡ b → Marked s ⊎ (Marked s → ⊥)
     go true e b f = inl (record { is = inl e })
     go false e true f = inl (record { is = inr f })
-    go false e false f = inr (λ m. ⊎-elim (λ g. true≢false (sym g ∙ e)) (λ g. true≢false (sym g ∙ f)) (m .is))
+    go false e false f = inr (neither s e f)

@@ -71,7 +71,7 @@ pub fn floor_of(file: &[u8]) -> Floor
 {
     if has_floor(file) {
         let n = file.len();
-        let r = bytes::u16_at(file, n - 20);
+        let r = bytes::u16_at(file, n - Trailer::FLOOR_BYTES);
         let t = bytes::u16_at(file, n - 18);
         return Floor::Slowest(r, t);
     }

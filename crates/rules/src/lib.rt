@@ -105,8 +105,8 @@ fn bad_floor(floor: Floor) -> bool
     bad_pace(r, t)
 }
 
-// The lower number of a pace; 0 counts as 1, as in the definition (over). A T or Q of 0 is refused
-// before two paces are compared.
+// The lower number of a pace; 0 counts as 1, as in the definition (over). With a T or Q of 0 the paces
+// are compared all the same, and what comes of it has no effect: 16 or 4, tried before 17, is given.
 fn at_least_one(lower: u32) -> u32
     ensures { λ r. ⌜ r ≡ max 1 lower ⌝ }
 {
