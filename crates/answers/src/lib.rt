@@ -1,10 +1,12 @@
 // What is answered for a list and for a roll: a plan, or a refusal with its number and place; and
 // how many numbers a row of a plan has. The definitions are specs/Numbers.antt.
+#![tactic(auto)]
+
 ghost use Rattle.std.specs.Prelude.{◌≡◌};
 ghost use Rattle.answers.specs.Numbers.{InNumbers, numbers_of};
 
 // A refusal: its number, and the report it concerns, 0 where no report is.
-#[derive(Drop)]
+#[derive(Clone, Copy)]
 pub struct Refusal {
     pub number: u32,
     pub place: usize,
@@ -49,7 +51,7 @@ impl Refusal {
 }
 
 // The answer: the block count, or the refusal.
-#[derive(Drop)]
+#[derive(Clone, Copy)]
 pub enum Answer {
     Planned(usize),
     Refused(Refusal),
@@ -57,7 +59,7 @@ pub enum Answer {
 
 // An answer in 01's numbers: number, place and block count.
 #[repr(C)]
-#[derive(Drop)]
+#[derive(Clone, Copy)]
 pub struct Reply {
     pub number: u32,
     pub place: usize,
@@ -83,7 +85,7 @@ pub fn in_numbers(answer: Answer) -> Reply
 }
 
 // A row of a plan: one block.
-#[derive(Drop)]
+#[derive(Clone, Copy)]
 pub struct Row {
     pub first: u32,
     pub last: u32,

@@ -1,8 +1,10 @@
 // Exact fractions, for code. The definitions are in specs/Fraction.antt, their laws in proofs/.
+#![tactic(auto)]
+
 ghost use Rattle.std.specs.Prelude.{◌≡◌, ◌*◌, ltb};
 
 // A pace: so many ticks for so many operations.
-#[derive(Drop)]
+#[derive(Clone, Copy)]
 pub struct Pace {
     pub ticks: u32,
     pub operations: u32,

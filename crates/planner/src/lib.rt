@@ -1,6 +1,8 @@
 // The planner: rules 1 to 9, 16 and 17, the pass at the fastest pace, the search for blocks, and their rows.
 // Its one entry point is plan. What it is handed, and the refusals and their order, are the crate
 // rules' specs/; what comes back, and what the row buffer then holds, is specs/Outcome.antt.
+#![tactic(auto)]
+
 use answers::Answer;
 use rules::{Floor, Roll, count_rules};
 use trials::Verdict;

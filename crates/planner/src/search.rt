@@ -8,7 +8,7 @@ ghost use Rattle.planner.specs.Inside.{FloorIs, Joins, KeptIs, StepIs, Weighed};
 use fraction::Pace;
 
 // A high or a low: the report, and the pace from the block's start to a time of that report.
-#[derive(Drop)]
+#[derive(Clone, Copy)]
 pub struct Mark {
     pub at: usize,
     pub ticks: u32,
@@ -17,7 +17,7 @@ pub struct Mark {
 
 // What the search keeps before report next: the operations so far, the last least high and the last
 // greatest low.
-#[derive(Drop)]
+#[derive(Clone, Copy)]
 pub struct Kept {
     pub next: usize,
     pub sum: u32,
@@ -26,7 +26,7 @@ pub struct Kept {
 }
 
 // Where a block ends: its last report, the time, its operations.
-#[derive(Drop)]
+#[derive(Clone, Copy)]
 pub struct End {
     pub last: usize,
     pub time: u32,
@@ -34,7 +34,7 @@ pub struct End {
 }
 
 // What one report does to the search: it ends it, or it joins.
-#[derive(Drop)]
+#[derive(Clone, Copy)]
 pub enum Step {
     Ends(End),
     Goes(Kept),

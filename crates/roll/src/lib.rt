@@ -1,5 +1,7 @@
 // The roll: its reader, and planning straight from a roll. A file is a roll's bytes, as they are handed
 // in. The format is specs/Format.antt, what the reader gives back specs/Answers.antt.
+#![tactic(auto)]
+
 use answers::{Answer, Refusal};
 use planner::plan;
 use rules::{Floor, Roll, count_rules};
@@ -18,7 +20,7 @@ ghost use Rattle.roll.specs.Answers.{TrailerIs, EndingIs, TrailerAnswerIs, floor
 
 // The numbers that every trailer has: the record count, and the terms that the list comes with.
 #[repr(C)]
-#[derive(Drop)]
+#[derive(Clone, Copy)]
 pub struct Trailer {
     pub count: u32,
     pub terms: Roll,
@@ -38,14 +40,14 @@ impl Trailer {
 }
 
 // What a roll's end says: the trailer's numbers, and the floor, which only a roll marked AF has.
-#[derive(Drop)]
+#[derive(Clone, Copy)]
 pub struct Ending {
     pub trailer: Trailer,
     pub floor: Floor,
 }
 
 // What the roll's end says, or why it is refused.
-#[derive(Drop)]
+#[derive(Clone, Copy)]
 pub enum TrailerAnswer {
     Is(Ending),
     Not(Refusal),
@@ -53,7 +55,7 @@ pub enum TrailerAnswer {
 
 // A floor in numbers: 1, R and T where there is one; all 0 where there is none.
 #[repr(C)]
-#[derive(Drop)]
+#[derive(Clone, Copy)]
 pub struct FloorNumbers {
     pub given: u32,
     pub r: u32,
@@ -64,7 +66,7 @@ pub struct FloorNumbers {
 // numbers; those of the floor; and where the part with the records lies, and its size. On a refusal all
 // but its number are 0.
 #[repr(C)]
-#[derive(Drop)]
+#[derive(Clone, Copy)]
 pub struct Numbers {
     pub refusal: u32,
     pub trailer: Trailer,
@@ -74,7 +76,7 @@ pub struct Numbers {
 }
 
 // What the reader hands back: the numbers, and the part of the caller's bytes that holds the records.
-#[derive(Drop)]
+#[derive(Clone, Copy)]
 pub struct Reading<'a> {
     pub numbers: Numbers,
     pub part: &'a [u8],

@@ -1,6 +1,8 @@
 // rollplan: reads one roll from standard input and writes its plan (01, "The roll"). What it writes
 // is rolltext::roll_text's; what is left here is the reading and the writing, and one line on
 // standard error where there is no answer. A program has no exit status: ./plan gives it one.
+#![tactic(auto)]
+
 ghost use Rattle.std.specs.Prelude.{ℕ, ◌≤◌, ◌≡◌, length};
 
 use libc::{STDERR_FILENO, STDIN_FILENO, STDOUT_FILENO};
@@ -10,7 +12,7 @@ use rolltext::Program;
 const INPUT: usize = Program::INPUT + 1;
 
 // What came of reading: so many bytes, or a read that failed, and errno then says why.
-#[derive(Drop)]
+#[derive(Clone, Copy)]
 enum Read {
     Got(usize),
     Failed,

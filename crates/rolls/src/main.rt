@@ -1,6 +1,8 @@
 // rolls: made rolls, each with its name and the text that rollplan would write for it. Every number
 // that a roll can be answered with is among them, with a floor and without, as is every shorter front of
 // 01's sample.
+#![tactic(auto)]
+
 ghost use Rattle.std.specs.Prelude.{◌<◌, ◌≤◌, length};
 
 use answers::Row;

@@ -1,5 +1,7 @@
 // The text of the plan of a roll: what the program rollplan writes for its input. The promise is
 // specs/Program.antt.
+#![tactic(auto)]
+
 ghost use Rattle.std.specs.Prelude.{◌≤◌, length};
 ghost use Rattle.answers.specs.Numbers.{number_of, place_of, blocks_of};
 ghost use Rattle.rolltext.specs.Program.{ProgramOutcome, Says};
@@ -11,7 +13,7 @@ use text::Text;
 
 // The program's limits: with buffers of these sizes every answer has its text whole
 // (proofs/Buffers.antt).
-#[derive(Drop)]
+#[derive(Clone, Copy)]
 pub struct Program;
 
 impl Program {

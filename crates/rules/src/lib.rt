@@ -1,5 +1,7 @@
 // 01's table of refusals, rules 1 to 9, with a floor's 16 and 17 (02, W2), and what they leave (specs/):
 // the types that they are about, with their limits, and the rules of the whole list tried in their order.
+#![tactic(auto)]
+
 ghost use Rattle.std.specs.Prelude.{◌≡◌, ◌⊎◌, ◌*◌, ◌<◌, max};
 ghost use Rattle.answers.specs.Numbers.{width};
 ghost use Rattle.trials.specs.Tries.{Tells, After};
@@ -12,7 +14,7 @@ use fraction::Pace;
 use trials::{Verdict, or_if};
 
 // A report, by its offsets.
-#[derive(Drop)]
+#[derive(Clone, Copy)]
 pub struct Report {
     pub arrival: u32,
     pub deadline: u32,
@@ -39,7 +41,7 @@ impl Report {
 // The terms that a list comes with, what a roll says beside its reports: the reference reading, and
 // the fastest pace P/Q.
 #[repr(C)]
-#[derive(Drop)]
+#[derive(Clone, Copy)]
 pub struct Roll {
     pub reference: u32,
     pub p: u32,
@@ -60,7 +62,7 @@ impl Roll {
 }
 
 // The slowest pace, R/T, that a caller may give beside the terms (02, W2).
-#[derive(Drop)]
+#[derive(Clone, Copy)]
 pub enum Floor {
     // There is none: a report may be drawn out as far as its room allows.
     Absent,

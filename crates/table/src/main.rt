@@ -1,5 +1,7 @@
 // Runs every row of 01's table through plan, each refusal, and lists with a floor, and writes for each what was handed in,
 // what came back, and the buffer, whose 30 numbers are all 7 beforehand.
+#![tactic(auto)]
+
 use libc::STDOUT_FILENO;
 use rules::{Floor, Roll};
 

@@ -1,4 +1,6 @@
 // Numbers and lines as text, put into a buffer. The text is specs/Text.antt.
+#![tactic(auto)]
+
 mod lines;
 mod put;
 
@@ -8,7 +10,7 @@ ghost use Rattle.text.specs.Text.{TextIs};
 use answers::Row;
 
 // How long the text of a plan can be, for those who keep a buffer for it.
-#[derive(Drop)]
+#[derive(Clone, Copy)]
 pub struct Text;
 
 impl Text {

@@ -2,6 +2,8 @@
 // that is given refuses. What a rule is, and which refusal a list of rules gives, is specs/Rules.antt;
 // a group of rules promises After (specs/Tries.antt), and proofs/Trying.antt puts groups one behind
 // the other. Here too are the searches for a fault that rules are decided by.
+#![tactic(auto)]
+
 ghost use Rattle.std.specs.Prelude.{true, ◌<◌, length, get_or};
 ghost use Rattle.trials.specs.Rules.{Outside, Falls};
 ghost use Rattle.trials.specs.Tries.{Tells, FirstOr, OrIf};
@@ -9,7 +11,7 @@ ghost use Rattle.trials.specs.Tries.{Tells, FirstOr, OrIf};
 use answers::Refusal;
 
 // What the rules tried so far give: nothing, or a refusal.
-#[derive(Drop)]
+#[derive(Clone, Copy)]
 pub enum Verdict {
     Silent,
     Given(Refusal),

@@ -2,6 +2,8 @@
 // plain names, over numbers and slices. include/vakrhildo.h declares them for C, outside/vakrhildo wraps
 // them for Rust. The promises are those of planner::plan, roll::plan_roll, roll::read and writer::write,
 // in 01's numbers.
+#![tactic(auto)]
+
 ghost use Rattle.std.specs.Prelude.{◌≡◌, ◌+◌, take};
 ghost use Rattle.rules.specs.declared.Floor.TheVariants.{Absent, Slowest};
 ghost use Rattle.planner.specs.Outcome.{PlanOutcome};

@@ -1,5 +1,7 @@
 // The writer of a roll: it puts a list into a lent buffer of bytes, from a place on, as the reader (roll)
 // reads it. The bytes are specs/Bytes.antt, what comes back specs/Writing.antt.
+#![tactic(auto)]
+
 use answers::Refusal;
 use roll::Trailer;
 use rules::Roll;
@@ -18,7 +20,7 @@ ghost use Rattle.writer.specs.Inside.{RecordFits, RecordsFit};
 // What the writer answers: the number of the refusal, 0 where there is none; its place, 0 always; and
 // how many bytes were written, 0 on a refusal.
 #[repr(C)]
-#[derive(Drop)]
+#[derive(Clone, Copy)]
 pub struct WriteReply {
     pub number: u32,
     pub place: usize,
