@@ -1,1 +1,1 @@
-pub mod Counted
+mod Filling

@@ -1,74 +1,81 @@
 // rollplan: reads one roll from standard input and writes its plan (01, "The roll"). What it writes
 // is rolltext::roll_text's; what is left here is the reading and the writing, and one line on
-// standard error where there is no answer. A program has no exit status: ./plan gives it one.
+// standard error where there is no answer. It ends with status 0 there too: ./plan gives it another.
 #![tactic(auto)]
 
-ghost use Rattle.std.specs.Prelude.{ℕ, ◌≤◌, ◌≡◌, length};
+ghost use Rattle.std.specs.Prelude.{◌<◌, ◌≤◌, length, take, IfOk};
+ghost use Rattle.std.specs.Io.KnownBytes.{Consumes, IsAtEnd, ReadConsumes};
 
-use libc::{STDERR_FILENO, STDIN_FILENO, STDOUT_FILENO};
 use rolltext::Program;
+use std::env::FillError;
+use std::io;
+use std::io::Read;
+use std::rt::Env;
 
 // One byte more than the program takes is enough to know that the input is too long.
 const INPUT: usize = Program::INPUT + 1;
 
-// What came of reading: so many bytes, or a read that failed, and errno then says why.
-#[derive(Clone, Copy)]
-enum Read {
-    Got(usize),
-    Failed,
-}
-
-// One read into buf. A read that a signal interrupts counts as failed, as it does in io; a program
-// that handles no signal does not meet it.
-fn read_once(fd: i32, buf: &mut [u8]) -> Read
-    ensures { (n : ℕ) → result ≡ Read.Got n → n ≤ length buf.new }
+// One read into buf. A read that a signal interrupts counts as failed; a program that handles no
+// signal does not meet it.
+fn read_once<R: Read>(input: &mut R, buf: &mut [u8]) -> io::Result<usize>
+    ensures bound { IfOk result (λ n. n ≤ length buf.new) }
+    ensures bytes { ReadConsumes (R.remaining input.old) (R.remaining input.new) result buf.new }
 {
-    let got = libc::read(fd, buf);
-    if got < 0 {
-        return Read::Failed;
-    }
-    Read::Got(io::count(got, buf))
+    input.read(buf)
 }
 
-// Reads until buf is full or the input ends. io::read_full cannot tell the end of the input from a
-// read that failed, and a failed read must not pass for a short roll.
-fn read_all(fd: i32, buf: &mut [u8]) -> Read
-    ensures { (n : ℕ) → result ≡ Read.Got n → n ≤ length buf.new }
+// Reads until buf is full or the input ends. A failed read must not pass for a short roll.
+fn read_all<R: Read>(input: &mut R, buf: &mut [u8]) -> io::Result<usize>
+    ensures bound { IfOk result (λ n. n ≤ length buf.new) }
+    ensures bytes { IfOk result (λ n. Consumes (R.remaining input.old) (R.remaining input.new) (take n buf.new)) }
+    ensures whole { IfOk result (λ n. n < length buf.new → IsAtEnd (R.remaining input.new)) }
 {
     let mut n: usize = 0;
     while n < buf.len() {
-        let read = read_once(fd, &mut buf[n..]);
-        let Read::Got(more) = read else {
-            return Read::Failed;
-        };
+        let more = read_once(input, &mut buf[n..])?;
         if more == 0 {
-            return Read::Got(n);
+            return Ok(n);
         }
         n += more;
     }
-    Read::Got(n)
+    Ok(n)
+}
+
+// Whether the program was started with an argument behind its name, empty, long or no text.
+fn has_argument(rt: &impl Env) -> bool {
+    !matches!(rt.arg(1, &mut []), Err(FillError::NotPresent))
+}
+
+// The system's text of an error, without the number of the error that std writes behind it.
+fn reason(text: &str) -> &str {
+    match text.split_once(" (os error ") {
+        Some((reason, _)) => reason,
+        None => text,
+    }
+}
+
+// A line on standard error: what failed, a colon and the system's text.
+fn fail(rt: &(impl Eprint + AllocGlobal), what: &str, error: io::Error) -> io::Result<()> {
+    let text = format!(in rt.alloc(); "{error}")?;
+    eprintln!(rt; "{what}: {}", reason(&text))
 }
 
 // Arguments, reading, the plan, writing. An argument is refused, since whoever gives a file's name
 // would wait for an answer while the program waits for standard input.
-fn main() {
-    if 1 < os::arg_count() {
-        io::write_all(
-            STDERR_FILENO,
-            b"usage: rollplan < FILE (it takes no argument)\n",
-        );
-        return;
+fn main(rt: HostRuntime) -> io::Result<()> {
+    if has_argument(&rt) {
+        return eprintln!(rt; "usage: rollplan < FILE (it takes no argument)");
     }
     let mut input = [0u8; INPUT];
     let mut rows = [0u32; Program::ROWS];
     let mut out = [0u8; Program::TEXT];
-    let read = read_all(STDIN_FILENO, &mut input);
-    let Read::Got(n) = read else {
-        os::fail(b"rollplan: reading standard input");
-        return;
+    let n = match read_all(&mut rt.stdin(), &mut input) {
+        Ok(n) => n,
+        Err(error) => return fail(&rt, "rollplan: reading standard input", error),
     };
     let length = rolltext::roll_text(&input[..n], &mut rows, &mut out);
-    if !io::write_all(STDOUT_FILENO, &out[..length]) {
-        os::fail(b"rollplan: writing standard output");
+    match rt.write_all(&out[..length]) {
+        Ok(()) => Ok(()),
+        Err(error) => fail(&rt, "rollplan: writing standard output", error),
     }
 }
