@@ -1,5 +1,5 @@
 /* Vakrhildo for C: the proved planner, the roll's reader and its writer. Link with
-   target/staticlib/libvakrhildo.a, which `rt staticlib vakrhildo` writes (x86-64 Linux). All five
+   target/staticlib/libvakrhildo.a, which `./build vakrhildo` writes (x86-64 Linux). All five
    functions answer every input; they use no heap, no global state, nothing of another library but
    memset, and at most 21 KiB of stack. */
 #ifndef VAKRHILDO_H

@@ -1,4 +1,4 @@
-//! Links the proved static library, which `rt staticlib vakrhildo` writes. VAKRHILDO_LIB names another folder.
+//! Links the proved static library, which `./build vakrhildo` writes. VAKRHILDO_LIB names another folder.
 use std::env;
 use std::path::PathBuf;
 
@@ -9,7 +9,7 @@ fn main() {
     let library = folder.join("libvakrhildo.a");
     assert!(
         library.exists(),
-        "{} is missing: run `rt staticlib vakrhildo` first",
+        "{} is missing: run `./build vakrhildo` first",
         library.display()
     );
     println!("cargo:rustc-link-search=native={}", folder.display());
