@@ -26,7 +26,7 @@ fn planned(
     floor: Floor,
     rows: &mut [u32],
 ) -> Reply
-    ensures { PlanOutcome (record { arrivals = arrivals.entry.now; deadlines = deadlines.now; operations = operations.now; terms = terms; floor = floor; buffer = rows.old }) result.number result.place result.blocks rows.new }
+    ensures { PlanOutcome (record { arrivals = arrivals.now; deadlines = deadlines.now; operations = operations.now; terms = terms; floor = floor; buffer = rows.old }) result.number result.place result.blocks rows.new }
 {
     let answer = planner::plan(arrivals, deadlines, operations, terms, floor, rows);
     answers::in_numbers(answer)
@@ -44,7 +44,7 @@ pub extern "C" fn vakrhildo_plan(
     q: u32,
     rows: &mut [u32],
 ) -> Reply
-    ensures { PlanOutcome (record { arrivals = arrivals.entry.now; deadlines = deadlines.now; operations = operations.now; terms = record { reference = reference; p = p; q = q }; floor = Absent; buffer = rows.old }) result.number result.place result.blocks rows.new }
+    ensures { PlanOutcome (record { arrivals = arrivals.now; deadlines = deadlines.now; operations = operations.now; terms = record { reference = reference; p = p; q = q }; floor = Absent; buffer = rows.old }) result.number result.place result.blocks rows.new }
 {
     let terms = Roll { reference, p, q };
     planned(arrivals, deadlines, operations, terms, Floor::Absent, rows)
@@ -63,7 +63,7 @@ pub extern "C" fn vakrhildo_plan_floor(
     t: u32,
     rows: &mut [u32],
 ) -> Reply
-    ensures { PlanOutcome (record { arrivals = arrivals.entry.now; deadlines = deadlines.now; operations = operations.now; terms = record { reference = reference; p = p; q = q }; floor = Slowest r t; buffer = rows.old }) result.number result.place result.blocks rows.new }
+    ensures { PlanOutcome (record { arrivals = arrivals.now; deadlines = deadlines.now; operations = operations.now; terms = record { reference = reference; p = p; q = q }; floor = Slowest r t; buffer = rows.old }) result.number result.place result.blocks rows.new }
 {
     let terms = Roll { reference, p, q };
     let floor = Floor::Slowest(r, t);
@@ -101,8 +101,8 @@ pub extern "C" fn vakrhildo_write(
     out: &mut [u8],
     at: usize,
 ) -> WriteReply
-    ensures write_outcome { WriteOutcome (record { arrivals = arrivals.entry.now; deadlines = deadlines.now; operations = operations.now; terms = record { reference = reference; p = p; q = q } }) out.old at result.number result.place result.bytes out.new }
-    ensures reads_back { result.number ≡ 0 → ReadsBack (take (at + result.bytes) out.new) (record { arrivals = arrivals.entry.now; deadlines = deadlines.now; operations = operations.now; terms = record { reference = reference; p = p; q = q } }) }
+    ensures write_outcome { WriteOutcome (record { arrivals = arrivals.now; deadlines = deadlines.now; operations = operations.now; terms = record { reference = reference; p = p; q = q } }) out.old at result.number result.place result.bytes out.new }
+    ensures reads_back { result.number ≡ 0 → ReadsBack (take (at + result.bytes) out.new) (record { arrivals = arrivals.now; deadlines = deadlines.now; operations = operations.now; terms = record { reference = reference; p = p; q = q } }) }
 {
     writer::write(
         arrivals,
