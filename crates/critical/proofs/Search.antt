@@ -1,19 +1,19 @@
 -- The search for the next block (01, "Blocks"; DESIGN 4.4): what it finds, that it finds it, that the next search is ready, and that paces differ where
 -- one block leads into the next.
 -- Assumes nothing.
-use Prim.Native.Nat.{ℕ, zero, suc, ◌+◌, ◌*◌, ◌-◌, ◌≤◌, ◌<◌, max}
+use Prim.Native.Nat.{ℕ, zero, suc, ◌+◌, ◌*◌, ◌-◌, ◌≤◌, ◌<◌}
 use mathlib.Core.Path.{◌≡◌, refl, sym, ◌∙◌, ap, subst}
 use mathlib.Core.Bool.{cond}
 use mathlib.Core.Logic.{◌⊎◌, inl, inr, ⊎_elim}
 use native.Mathlib.Omega.{arith}
-use native.Mathlib.Nat.{eq-or-lt_of_le, le_of_suc-le-suc, not-suc-le-zero, le_refl, le_of_lt}
+use native.Mathlib.Nat.{eq-or-lt_of_le, le_of_suc-le-suc, le_refl}
 use lib.Dec.{ltb}
 use borrow.Author.Tests.{lt-ltb, le-ltb}
-use Rattle.fraction.specs.Fraction.{Fraction, ◌≼◌, ◌≺◌, ◌≈◌, whole, plus, times, over}
+use Rattle.fraction.specs.Fraction.{Fraction, ◌≼◌, ◌≺◌, ◌≈◌, whole, times, over}
 use Rattle.fraction.proofs.Scale.{cases}
-use Rattle.fraction.proofs.Order.{≼_refl, ≼_trans, ≼_≺_trans, ≺_≼_trans, ≈_≼, ≈_≽, ≈_refl, ≈_sym, ≈_trans, ≺_≼, ≺_≼_absurd, split, whole_≼, whole_≺, plus_≼, plus_≈, times_≼, over_≼}
-use Rattle.critical.specs.Reports.{Reports, Positive}
-use Rattle.critical.specs.Rows.{Row, pace, sum}
+use Rattle.fraction.proofs.Order.{≼_refl, ≼_trans, ≈_≼, ≈_≽, ≈_refl, ≈_sym, ≈_trans, ≺_≼, ≺_≼_absurd, split, whole_≼, plus_≼, plus_≈, over_≼}
+use Rattle.critical.specs.Reports.{Reports}
+use Rattle.critical.specs.Rows.{Row, pace}
 use Rattle.critical.proofs.Lines.{span, span_join, span_pos, line, line_≼, line_more, line_end, line_start, slope_≼, slope_≻, slope_≽, slope_≺, ≽_slope}
 use Rattle.critical.proofs.Room.{Roomy}
 
