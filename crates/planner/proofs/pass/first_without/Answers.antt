@@ -28,7 +28,7 @@ returns-then-due-done c =
     let passed = through_step ℓ p q c.requires.pace.p_some c.requires.pace.q_some i c.loop-i.done c.finish-done.result c.loop-i.invariant.finished finished in
     let due : c.due.result ≡ q * ℓ.deadline i = c.due.ensures ∙ ap (λ (r : Report). q * r.deadline) c.new-report.ensures in
     record {
-      within = c.loop-i.invariant.on_list;
+      within = omega (arith, c.loop-i.invariant.on_list);
       stops = λ h. stops_at ℓ p q c.requires.pace.p_some c.requires.pace.q_some i h c.loop-i.invariant.timely (omega (arith, passed, due, c.if-due-done.true));
       passes = λ x. absurd (omega (arith, x, c.loop-i-test.true));
     }
