@@ -16,8 +16,7 @@ returns-in-Given-clause-proper c = (refuses c.count_rules-tried.ensures c.in-Giv
 pub plan_records-requires : goal.plan_records-requires
 plan_records-requires c =
     let a = c.args in
-    let g = file_has c.requires.is in
-    (
+    let g = file_has c.requires.is in (
       part_long a.file.now a.rows.now a.ending g _ (c.part_of.ensures.accepted g.passed.accepted).bytes,
       few_records a.file.now a.rows.now a.ending g (passed (counted a.file.now a.rows.now a.ending g c.count_rules-tried.ensures) c.in_default.is),
     )

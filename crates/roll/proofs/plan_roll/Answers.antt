@@ -1,6 +1,5 @@
 -- The trailer is refused, or its list is planned.
 use Rattle.std.proofs.Common.{refl, sym, ap, ◌∙◌, subst}
-use Rattle.answers.specs.declared.Refusal.{Refusal}
 use Rattle.trials.specs.Rules.{Refuses}
 use Rattle.roll.specs.Format.{file_rules}
 use Rattle.roll.specs.Answers.{refusal_in}
