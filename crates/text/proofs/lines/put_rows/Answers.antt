@@ -1,7 +1,7 @@
 -- Each turn puts the line of one row.
 -- Assumes nothing.
 use Rattle.std.proofs.Common.{refl, arith}
-use Rattle.lists.proofs.Putting.{no_turn, one_turn, all_turns}
+use Rattle.lists.proofs.Putting.{no_turn, one_turn}
 use Rattle.text.specs.Text.{row_lines}
 use Rattle.text.proofs.lines.put_rows.Goals as goal
 

@@ -9,7 +9,7 @@ use Rattle.text.proofs.lines.put_rows.Given as goal
 abbrev pub invariant-loop-k : goal.invariant-loop-k
 invariant-loop-k l = record {
   upto : l.k ≤ l.blocks;
-  turns : Turns l.initial.out l.at (row_lines l.rows) (line_room width) l.k l.behind l.out
+  turns : Turns l.initial.out l.at (row_lines l.rows) (line_room width) l.k l.behind l.out;
 }
 
 abbrev pub decreases-loop-k : goal.decreases-loop-k

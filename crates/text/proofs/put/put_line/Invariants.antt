@@ -9,7 +9,7 @@ use Rattle.text.proofs.put.put_line.Given as goal
 abbrev pub invariant-loop-i : goal.invariant-loop-i
 invariant-loop-i l = record {
   upto : l.i ≤ l.last;
-  turns : Turns l.initial.out l.at (spaced l.numbers) (line_room 1) l.i l.behind l.out
+  turns : Turns l.initial.out l.at (spaced l.numbers) (line_room 1) l.i l.behind l.out;
 }
 
 abbrev pub decreases-loop-i : goal.decreases-loop-i
