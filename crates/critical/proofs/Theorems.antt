@@ -14,7 +14,8 @@ use Rattle.critical.specs.Cost.{sum_at, Cost, Flatter, bill, NoHigher}
 use Rattle.critical.proofs.Slack.{slack_at}
 use Rattle.critical.proofs.Runs.{arrives}
 use Rattle.critical.proofs.Room.{TimelyTo, Roomy, plan_timely, timely_plan, stops_first, first_timely, first_stops, runs, shorter, timely_roomy, roomy_timely}
-use Rattle.critical.proofs.Search.{Stretch, Found, Best, Leaves, ◌≻◌, ◌≽◌, Ready, Scan, way, floor, high, low, row_of}
+use Rattle.critical.proofs.Best.{◌≻◌, ◌≽◌, Best}
+use Rattle.critical.proofs.Search.{Stretch, Found, Leaves, Ready, Scan, way, floor, high, low, row_of}
 use Rattle.critical.proofs.Cover.{few_rows}
 use Rattle.critical.proofs.Chain.{Chain, Link}
 use Rattle.critical.proofs.Least as Least

@@ -1,5 +1,5 @@
 -- One more of the row's numbers is copied.
-use Rattle.std.proofs.Common.{length, ap, arith}
+use Rattle.std.proofs.Common.{length, ap}
 use Rattle.lists.proofs.Copying.{copied_more}
 use Rattle.planner.proofs.blocks.put_row.Goals as goal
 
