@@ -1,19 +1,19 @@
 -- A chain of blocks found one behind the other, and that it is `Critical` (DESIGN 4.4).
 -- Assumes nothing.
-use Prim.Native.Nat.{ℕ, zero, suc, ◌+◌, ◌*◌, ◌-◌, ◌≤◌, ◌<◌, max}
+use Prim.Native.Nat.{ℕ, zero, suc, ◌≤◌, ◌<◌, max}
 use mathlib.Core.Path.{◌≡◌, refl, sym, ◌∙◌, ap, subst}
-use mathlib.Core.Logic.{◌⊎◌, inl, inr, ⊎_elim}
+use mathlib.Core.Logic.{⊎_elim}
 use native.Mathlib.Omega.{arith}
-use native.Mathlib.Nat.{eq-or-lt_of_le, le_of_suc-le-suc, not-suc-le-zero, le_refl}
-use Rattle.fraction.specs.Fraction.{Fraction, ◌≼◌, ◌≺◌, ◌≈◌, whole, plus, times, later}
-use Rattle.fraction.proofs.Scale.{cases, max_high, max_low}
-use Rattle.fraction.proofs.Order.{≼_refl, ≼_trans, ≈_refl, ≈_sym, ≈_trans, ≈_≼, ≈_≽, ≺_≼, ≺_≼_absurd, whole_≼, ≼_whole, plus_≈, later_≈, later_right, later_whole, positive_up}
+use native.Mathlib.Nat.{eq-or-lt_of_le, le_of_suc-le-suc, le_refl}
+use Rattle.fraction.specs.Fraction.{Fraction, ◌≼◌, ◌≺◌, ◌≈◌, whole}
+use Rattle.fraction.proofs.Scale.{max_high, max_low}
+use Rattle.fraction.proofs.Order.{≼_refl, ≼_trans, ≈_refl, ≈_trans, ≈_≼, ≈_≽, ≺_≼, ≺_≼_absurd, whole_≼, ≼_whole, later_≈, later_whole, positive_up}
 use Rattle.critical.specs.Reports.{Reports, Paces, Working, Positive, start, finish, Allowed}
-use Rattle.critical.specs.Rows.{Row, pace, plan_of, behind, sum, Busy, CriticalPlan, Critical}
+use Rattle.critical.specs.Rows.{Row, pace, plan_of, behind, Busy, Critical}
 use Rattle.critical.proofs.Lines.{sum_mono}
 use Rattle.critical.proofs.Runs.{along}
 use Rattle.critical.proofs.Room.{Roomy}
-use Rattle.critical.proofs.Search.{Stretch, stretch_end, stretch_later, floor, floor_in, Found, Ending, at_deadline, at_arrival, way, way_end, Ready, ready_on, leads_slower, leads_faster}
+use Rattle.critical.proofs.Search.{Stretch, stretch_end, stretch_later, floor_in, Found, Ending, at_deadline, at_arrival, way, way_end, Ready, ready_on, leads_slower, leads_faster}
 use Rattle.critical.proofs.Cover.{Follow, InRow, behind_zero, behind_suc, row_of, plan_in_row}
 
 -- where row k of a chain starts: the first at its arrival, each other at the later of its first report's arrival and the end of the row before

@@ -5,9 +5,9 @@ use Prim.Native.Nat.{ℕ, zero, suc, ◌+◌, ◌*◌, ◌-◌, ◌≤◌, ◌<�
 use mathlib.Core.Path.{◌≡◌, refl, sym, ◌∙◌, ap, ap₂, subst₂}
 use mathlib.Core.List.{List, [], ◌∷◌}
 use native.Mathlib.Omega.{arith}
-use native.Mathlib.Nat.{mul-pos, mul-le-mul_left, mul-sub, mul-add, mul_assoc, mul-zero, one-mul, le_refl, lt-suc_self}
-use Rattle.fraction.specs.Fraction.{Fraction, ◌≼◌, whole, plus, over}
-use Rattle.fraction.proofs.Scale.{cases, At, at_whole, at_plus, at_less, at_product, at_more, at_over, at_le, le_at, Fits, scaled, at_scaled, fits_den, fits_left, fits_right}
+use native.Mathlib.Nat.{mul-pos, mul-le-mul_left, mul-add, mul_assoc, mul-zero, one-mul, le_refl, lt-suc_self}
+use Rattle.fraction.specs.Fraction.{Fraction, ◌≼◌, whole, over}
+use Rattle.fraction.proofs.Scale.{At, at_whole, at_plus, at_less, at_product, at_more, at_over, at_le, le_at, Fits, scaled, at_scaled, fits_den, fits_left, fits_right}
 use Rattle.fraction.proofs.Order.{≼_refl, plus_≼}
 use Rattle.critical.specs.Reports.{Reports, Paces, Keeps}
 use Rattle.critical.specs.Rows.{sum, CriticalPlan}

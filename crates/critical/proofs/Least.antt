@@ -1,6 +1,6 @@
 -- The strong inequality in fractions, and what follows of plans: least sums, and one critical plan.
 -- Assumes nothing.
-use Prim.Native.Nat.{ℕ, ◌*◌, ◌-◌, ◌<◌}
+use Prim.Native.Nat.{ℕ, ◌*◌, ◌<◌}
 use native.Mathlib.Nat.{mul-pos, le_refl, le_antisymm}
 use Rattle.fraction.specs.Fraction.{Fraction, ◌≼◌, ◌≈◌, whole, plus}
 use Rattle.fraction.proofs.Scale.{At, at_plus, at_less, at_le, at_eq, scaled, at_scaled, fits_den, fits_left, fits_right, scale, scale_pos, scale_fits}

@@ -5,6 +5,7 @@ pub mod Least
 pub mod Lines
 pub mod Runs
 pub mod Room
+pub mod Best
 pub mod Search
 pub mod Cover
 pub mod Chain

@@ -1,10 +1,10 @@
 -- Runs of reports and straight lines: the operations of a run, and the time s + t · S that a run of S operations from s reaches at pace t.
 -- Assumes nothing.
 use Prim.Native.Nat.{ℕ, zero, suc, ◌+◌, ◌*◌, ◌-◌, ◌≤◌, ◌<◌, max}
-use mathlib.Core.Path.{◌≡◌, refl, sym, ◌∙◌, ap}
+use mathlib.Core.Path.{◌≡◌, refl, ap}
 use mathlib.Core.Logic.{⊎_elim}
 use native.Mathlib.Omega.{arith}
-use native.Mathlib.Nat.{mul-sub, mul-le-mul_left, eq-or-lt_of_le, le_of_suc-le-suc, not-suc-le-zero, le_refl}
+use native.Mathlib.Nat.{mul-sub, mul-le-mul_left, eq-or-lt_of_le, le_of_suc-le-suc, le_refl}
 use Rattle.fraction.specs.Fraction.{Fraction, ◌≼◌, ◌≺◌, ◌≈◌, whole, plus, times, over}
 use Rattle.fraction.proofs.Scale.{cases, at_whole, at_times, at_plus, at_over, at_eq}
 use Rattle.fraction.proofs.Order.{≼_refl, whole_≼, plus_≼, plus_times, times_≼}

@@ -2,11 +2,11 @@
 -- operations and paces; a plan in fractions becomes one by a common scale (Scaled.antt).
 -- Assumes nothing.
 use Prim.Native.Nat.{ℕ, zero, suc, ◌+◌, ◌*◌, ◌-◌, ◌≤◌, ◌<◌, max, zero-le}
-use mathlib.Core.Path.{◌≡◌, refl, sym, ◌∙◌, ap}
+use mathlib.Core.Path.{◌≡◌, refl, sym, ap}
 use mathlib.Core.Bool.{cond}
 use mathlib.Core.Logic.{⊎_elim}
 use native.Mathlib.Omega.{arith}
-use native.Mathlib.Nat.{mul-sub, mul-le-mul_left, mul-pos, eq-or-lt_of_le, le_of_suc-le-suc, not-suc-le-zero, le_refl, le_trans, lt-suc_self}
+use native.Mathlib.Nat.{mul-sub, mul-le-mul_left, mul-pos, eq-or-lt_of_le, le_of_suc-le-suc, not-suc-le-zero, le_refl, lt-suc_self}
 use lib.Dec.{ltb}
 use borrow.Author.Tests.{lt-ltb, le-ltb}
 use Rattle.fraction.proofs.Scale.{cases}

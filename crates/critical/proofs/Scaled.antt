@@ -1,15 +1,15 @@
 -- From fractions to whole numbers: at a scale M that fits the paces, starts, finishes and sums are whole, and the definitions of specs/ become
 -- the properties of Numbers.antt.
 -- Assumes nothing.
-use Prim.Native.Nat.{ℕ, zero, suc, ◌+◌, ◌*◌, ◌-◌, ◌≤◌, ◌<◌}
+use Prim.Native.Nat.{ℕ, zero, suc, ◌*◌, ◌-◌, ◌≤◌, ◌<◌}
 use mathlib.Core.Path.{◌≡◌}
 use mathlib.Core.Bool.{cond}
 use native.Mathlib.Omega.{arith}
 use native.Mathlib.Nat.{lt_of_mul-lt-mul_left, le_of_mul-le-mul_left, mul-zero}
 use lib.Dec.{ltb}
 use borrow.Author.Tests.{lt-ltb, le-ltb}
-use Rattle.fraction.specs.Fraction.{Fraction, ◌≼◌, ◌≺◌, ◌≈◌, whole}
-use Rattle.fraction.proofs.Scale.{cases, At, at_whole, at_times, at_plus, at_less, at_later, at_le, at_lt, le_at, eq_at, Fits, scaled, at_scaled}
+use Rattle.fraction.specs.Fraction.{Fraction, ◌≈◌, whole}
+use Rattle.fraction.proofs.Scale.{cases, At, at_whole, at_times, at_plus, at_less, at_later, at_le, at_lt, le_at, eq_at}
 use Rattle.critical.specs.Reports.{Reports, Paces, start, finish, Keeps}
 use Rattle.critical.specs.Rows.{sum, Busy, CriticalPlan}
 use Rattle.critical.specs.Cost.{total}

@@ -1,6 +1,6 @@
 -- What a rival strays from a threshold: what the strong inequality has beside the two sums. No statement of the demands needs it.
 -- Assumes nothing.
-use Prim.Native.Nat.{ℕ, ◌*◌}
+use Prim.Native.Nat.{◌*◌}
 use mathlib.Core.Bool.{cond}
 use lib.Dec.{ltb}
 use Rattle.fraction.specs.Fraction.{Fraction, less}

@@ -1,14 +1,14 @@
 -- Tests that compute: a statement with a Bool that is true exactly when it bit, for each connective, and so for `Critical`.
 -- Assumes nothing.
 use Prim.Native.Nat.{ℕ, zero, suc, ◌+◌, ◌*◌, ◌≤◌, ◌<◌}
-use mathlib.Core.Path.{◌≡◌, refl, sym, subst}
+use mathlib.Core.Path.{◌≡◌, sym, subst}
 use mathlib.Core.Bool.{Bool, true, false, not, ◌&&◌}
 use mathlib.Core.Logic.{⊎_elim}
 use native.Mathlib.Omega.{arith}
 use native.Mathlib.Nat.{eq-or-lt_of_le, le_of_suc-le-suc, not-suc-le-zero, lt-suc_self}
 use lib.Dec.{T, leb, ltb, eqb, leb→le, le→leb, ltb→lt, lt→ltb, eqb→eq, eqb_refl, T_not, not_T}
 use Rattle.fraction.specs.Fraction.{Fraction, ◌≼◌, ◌≺◌, ◌≈◌, whole}
-use Rattle.critical.specs.Reports.{Reports, Paces, Positive, start, finish, Keeps, Allowed}
+use Rattle.critical.specs.Reports.{Reports, Paces, start, finish, Allowed}
 use Rattle.critical.specs.Rows.{Row, pace, plan_of, behind, sum, Busy, CriticalPlan, Critical}
 
 -- a statement that can be tested

@@ -8,13 +8,14 @@ use native.Mathlib.Nat.{eq-or-lt_of_le, mul-pos}
 use Rattle.fraction.specs.Fraction.{Fraction, ◌≼◌, ◌≺◌, ◌≈◌, whole, plus, times}
 use Rattle.fraction.proofs.Scale.{cases}
 use Rattle.fraction.proofs.Order.{≺_≼_absurd, ≼_≺_trans, ≈_≼, ≼_trans, whole_≼, whole_≺, ≺_plus}
-use Rattle.critical.specs.Reports.{Reports, Paces, first_of, Working, Positive, steady, start, finish, Keeps, Allowed, Plannable, FirstWithout}
+use Rattle.critical.specs.Reports.{Reports, Paces, first_of, Working, Positive, steady, start, finish, Keeps, Plannable, FirstWithout}
 use Rattle.critical.specs.Rows.{Row, pace, plan_of, behind, Busy, CriticalPlan, Critical}
 use Rattle.critical.specs.Cost.{sum_at, Cost, Flatter, bill, NoHigher}
 use Rattle.critical.proofs.Slack.{slack_at}
 use Rattle.critical.proofs.Runs.{arrives}
 use Rattle.critical.proofs.Room.{TimelyTo, Roomy, plan_timely, timely_plan, stops_first, first_timely, first_stops, runs, shorter, timely_roomy, roomy_timely}
-use Rattle.critical.proofs.Search.{Stretch, Found, Best, Leaves, ◌≻◌, ◌≽◌, Ready, Scan, way, floor, high, low, row_of}
+use Rattle.critical.proofs.Best.{◌≻◌, ◌≽◌, Best}
+use Rattle.critical.proofs.Search.{Stretch, Found, Leaves, Ready, Scan, way, floor, high, low, row_of}
 use Rattle.critical.proofs.Cover.{few_rows}
 use Rattle.critical.proofs.Chain.{Chain, Link}
 use Rattle.critical.proofs.Least as Least

@@ -1,16 +1,16 @@
 -- At most one list of rows is `Critical`.
 -- Assumes nothing.
-use Prim.Native.Nat.{ℕ, zero, suc, ◌+◌, ◌-◌, ◌≤◌, ◌<◌}
-use mathlib.Core.Path.{◌≡◌, refl, sym, ◌∙◌, ap, subst}
+use Prim.Native.Nat.{ℕ, zero, suc, ◌≤◌, ◌<◌}
+use mathlib.Core.Path.{◌≡◌, sym, ◌∙◌, ap, subst}
 use mathlib.Core.Logic.{⊎_elim}
 use native.Mathlib.Omega.{arith}
-use native.Mathlib.Nat.{eq-or-lt_of_le, le_of_suc-le-suc, not-suc-le-zero, le_refl}
-use Rattle.fraction.specs.Fraction.{Fraction, ◌≼◌, ◌≺◌, ◌≈◌, whole, plus, times, over}
+use native.Mathlib.Nat.{eq-or-lt_of_le, le_refl}
+use Rattle.fraction.specs.Fraction.{Fraction, ◌≈◌, whole, over}
 use Rattle.fraction.proofs.Scale.{cases}
-use Rattle.fraction.proofs.Order.{≼_refl, ≼_trans, ≼_≺_trans, ≺_≼_trans, ≈_refl, ≈_sym, ≈_trans, ≈_≼, ≈_≽, ≺_≼, ≺_≼_absurd, ≈_whole, split, plus_≼, plus_≺, plus_≈, times_≈, later_≈}
+use Rattle.fraction.proofs.Order.{≼_trans, ≈_refl, ≈_sym, ≈_trans, ≈_≼, ≈_≽, ≈_whole, plus_≈, times_≈, later_≈}
 use Rattle.critical.specs.Reports.{Reports, Paces, Working, Positive, start, finish}
 use Rattle.critical.specs.Rows.{Row, pace, plan_of, behind, sum, Busy, Critical}
-use Rattle.critical.proofs.Lines.{span, span_one, span_more, span_pos, sum_mono, line, line_more, line_end}
+use Rattle.critical.proofs.Lines.{span, span_pos, line, line_end}
 use Rattle.critical.proofs.Runs.{no_idle}
 use Rattle.critical.proofs.Least.{one_plan}
 use Rattle.critical.proofs.Cover.{Follow, behind_mono, behind_zero, behind_suc, plan_in_row}

@@ -2,7 +2,7 @@
 -- Nothing here asks that arrivals or deadlines are in any order.
 -- Assumes nothing.
 use Rattle.std.specs.Prelude.{ℕ, zero, suc, ◌<◌, List, length, get_or}
-use Rattle.fraction.specs.Fraction.{Fraction, ◌≼◌, ◌≺◌, whole, plus, times, later}
+use Rattle.fraction.specs.Fraction.{Fraction, ◌≼◌, whole, plus, times, later}
 
 -- A list of reports: how many, and the arrival, the deadline and the operations of each, counted from 0.
 pub record Reports : Type 0 where

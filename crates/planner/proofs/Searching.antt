@@ -6,7 +6,8 @@ use Rattle.fraction.proofs.Order.{over_≺, over_≽}
 use Rattle.fraction.proofs.Scale.{cases}
 use Rattle.critical.specs.Reports.{Reports, list_of}
 use Rattle.critical.proofs.Lines.{span, span_one, span_more, span_pos, sum_bound}
-use Rattle.critical.proofs.Search.{Stretch, Scan, Best, ◌≻◌, ◌≽◌, up, down, best_keep, best_take, floor, floor_in, floor_end, stretch_from, high, low, scan_first, scan_more, finds_rise, finds_fall, finds_whole}
+use Rattle.critical.proofs.Best.{Best, ◌≻◌, ◌≽◌, up, down, best_keep, best_take}
+use Rattle.critical.proofs.Search.{Stretch, Scan, floor, floor_in, floor_end, stretch_from, high, low, scan_first, scan_more, finds_rise, finds_fall, finds_whole}
 use Rattle.rules.specs.Leaves.{Fair}
 use Rattle.planner.specs.Inside.{Joins, FloorIs, MarkIs, KeptIn, KeptIs, Weighed, EndIs, StepIs}
 use Rattle.planner.specs.declared.search.Mark.{Mark}

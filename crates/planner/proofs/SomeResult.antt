@@ -7,7 +7,7 @@ use Rattle.trials.proofs.Passing.{Passed, Quiet, finding}
 use Rattle.trials.proofs.Deciding.{Gives, passed_or_given}
 use Rattle.fraction.specs.Fraction.{Fraction}
 use Rattle.critical.specs.Reports.{Reports, Working, Positive, Plannable, FirstWithout}
-use Rattle.critical.specs.Rows.{Row, behind}
+use Rattle.critical.specs.Rows.{Row}
 use Rattle.critical.proofs.Cover.{few_rows}
 use Rattle.critical.proofs.Chain.{chain_same, behind_same, chain_critical}
 use Rattle.critical.proofs.Exists.{exists_chain}

@@ -29,7 +29,7 @@ pub fn plan(
     floor: Floor,
     rows: &mut [u32],
 ) -> Answer
-    ensures plan_outcome { PlanOutcome (record { arrivals = arrivals.entry.now; deadlines = deadlines.now; operations = operations.now; terms = terms; floor = floor; buffer = rows.old }) (number_of result) (place_of result) (blocks_of result) rows.new }
+    ensures plan_outcome { PlanOutcome (record { arrivals = arrivals.now; deadlines = deadlines.now; operations = operations.now; terms = terms; floor = floor; buffer = rows.old }) (number_of result) (place_of result) (blocks_of result) rows.new }
     ensures proper { Proper result }
 {
     let tried = count_rules(

@@ -4,7 +4,7 @@ use mathlib.Core.Path.{sym, ap, subst}
 use mathlib.Core.List.{List, [], ◌∷◌}
 use seplogic.Ra.Ura.{Ura}
 use Prim.Native.Nat.{ℕ}
-use mir.Syntax.{Name, Place, Opd as Operand, Body, named, seq, call}
+use mir.Syntax.{Callee, Place, Opd as Operand, Body, w8, named, seq, call}
 use mir.Val.{Val}
 use base.Logic.{SProp, ent, sep, emp, via, snd∗, ex_e, id⊢}
 use base.Fml.{Lft, Fml, fsep}
@@ -16,6 +16,7 @@ use types.Run.{Opds}
 use sound.WpLaws.{FmC}
 use denote.Laws.{Is, Tells, shows}
 use denote.Builtin.{u8}
+use denote.Plain.{uint_row_laws}
 use denote.Ref.{Bor}
 use denote.Signature.{type_at}
 use denote.Slice.{ShrSlice, shr_slice_copy}
@@ -31,7 +32,7 @@ abbrev pub met : {M : Type 1} {𝓤 : Ura M} (𝓛 : Logic 𝓤) (F : Ended) →
 met 𝓛 F c = triple_of 𝓛 F.signature (closing 𝓛 F c)
 
 -- A call: what the callee asks stands at the head; once it has returned r, at the machine value that r spells, what r owns and the callee's tokens stand there, and what its `ensures` states, φ, is known.
-module _ {M : Type 1} {𝓤 : Ura M} {𝓛 : Logic 𝓤} {K : Type 0} {Γ : List (Item 𝓤)} {E : Env 𝓤 𝓛.H} {C : Calls 𝓤 𝓛.H} {Λ : Loops 𝓤 𝓛.H} {q : Ends 𝓤 𝓛.H} {f : Name} {xs : List Operand} {d : Place} {rest : Body} where
+module _ {M : Type 1} {𝓤 : Ura M} {𝓛 : Logic 𝓤} {K : Type 0} {Γ : List (Item 𝓤)} {E : Env 𝓤 𝓛.H} {C : Calls 𝓤 𝓛.H} {Λ : Loops 𝓤 𝓛.H} {q : Ends 𝓤 𝓛.H} {f : Callee} {xs : List Operand} {d : Place} {rest : Body} where
   open 𝓛 use {H}
 
   pub asks : K → FmC 𝓤 H 𝓛.laws C → (F : Ended) (c : Clauses 𝓤 F) → Triple 𝓤 (C f) (met 𝓛 F c) → (y : (met 𝓛 F c).Ghost) → let R = type_at F.signature.result y.0.0 in
@@ -57,5 +58,5 @@ module _ {M : Type 1} {𝓤 : Ura M} (𝓛 : Logic 𝓤) (T : SProp 𝓤) (κ : 
   pub lends : (P : Fml) (R : SProp 𝓤) → ent 𝓤 (emp 𝓤) (sem 𝓛 P) → ent 𝓤 (emp 𝓤) R
       → ent 𝓤 (⋆ 𝓛 (raw T ∷ ‵ Own ∷ [])) (sep 𝓤 (sep 𝓤 (sep 𝓤 T (sem 𝓛 (fsep Own P))) R) (sem 𝓛 Own))
   lends P R p r =
-      qed 𝓛 (raw T ∷ ‵ Own ∷ []) ∵ move ! (1 ∷ []) $ use1 𝓛 (‵ Own ⊛ ‵ Own) ((shr_slice_copy 𝓛 (named 0) κ u8).twice s (v ∷ [])) $ split ! $
+      qed 𝓛 (raw T ∷ ‵ Own ∷ []) ∵ move ! (1 ∷ []) $ use1 𝓛 (‵ Own ⊛ ‵ Own) ((shr_slice_copy 𝓛 (named 0) κ u8 (uint_row_laws w8)).twice s (v ∷ [])) $ split ! $
       use0 𝓛 (‵ P) p $ move ! (1 ∷ 0 ∷ []) $ fjoin ! $ move ! (2 ∷ 0 ∷ []) $ join ! $ use0 𝓛 (raw R) r $ move ! (1 ∷ 0 ∷ []) $ join ! $ frame ! $ done !

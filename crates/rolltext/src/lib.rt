@@ -26,6 +26,7 @@ impl Program {
 }
 
 // The answer for an input. Rule 14 is before all others.
+#[tactic(auto, using(crate::proofs::Saying::too_long))]
 fn answer_input(input: &[u8], rows: &mut [u32]) -> Answer
     ensures { ProgramOutcome input.now rows.old (number_of result) (place_of result) (blocks_of result) rows.new }
 {

@@ -10,6 +10,7 @@ use Rattle.critical.specs.Rows.{CriticalPlan}
 use Rattle.critical.specs.Cost.{sum_at, Cost, Flatter, bill, NoHigher}
 use Rattle.critical.proofs.Theorems.{least_sum, cost_by_sums}
 use Rattle.slowest.specs.Slowest.{floored, UpTo, NoSlower, PlannableWithin}
+use Rattle.slowest.proofs.Above as Above
 use Rattle.slowest.proofs.Floored as Floored
 use Rattle.slowest.proofs.Alone.{lone, drawn_out, lone_critical, lone_slower, lone_below}
 
@@ -54,7 +55,7 @@ pub runs_least_sum_above :
     CriticalPlan ℓ fastest ours → Keeps ℓ rival → NoSlower ℓ slowest rival →
     sum_at ℓ c (floored slowest ours) ≼ sum_at ℓ c rival
 runs_least_sum_above ℓ fastest slowest ours rival c crit keeps within =
-    Floored.above ℓ slowest (floored slowest ours) rival (runs_within ℓ slowest ours) within (λ x. runs_least_sum ℓ fastest slowest ours rival x crit keeps) c
+    Above.above ℓ slowest (floored slowest ours) rival (runs_within ℓ slowest ours) within (λ x. runs_least_sum ℓ fastest slowest ours rival x crit keeps) c
 
 -- For slower rivals it need not be: here is a list, the plan of its rows and a slowest pace, and at a threshold above the slowest pace the sum of the rows' own paces, which are slower and keep the list, is smaller than that of what runs.
 pub slower_rival_below :

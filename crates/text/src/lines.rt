@@ -39,8 +39,8 @@ fn widen(rows: &[u32], from: usize, out: &mut [u64])
 
 // The line of row k.
 fn put_row(rows: &[u32], k: usize, out: &mut [u8], at: usize) -> usize
-    requires width_in_bounds { width * k + width ≤ length rows.now }
-    requires width_in_bounds_2 { at + line_room width ≤ length out.old }
+    requires rows_long { width * k + width ≤ length rows.now }
+    requires room { at + line_room width ≤ length out.old }
     ensures puts { Puts out.old at (row_line rows.now k) result out.new }
     ensures upper_bound { result ≤ at + line_room width }
 {
@@ -51,8 +51,8 @@ fn put_row(rows: &[u32], k: usize, out: &mut [u8], at: usize) -> usize
 
 // One line a block.
 pub fn put_rows(rows: &[u32], blocks: usize, out: &mut [u8], at: usize) -> usize
-    requires blocks_in_bounds { width * blocks ≤ length rows.now }
-    requires blocks_in_bounds_2 { at + line_room width * blocks ≤ length out.old }
+    requires rows_long { width * blocks ≤ length rows.now }
+    requires room { at + line_room width * blocks ≤ length out.old }
     ensures puts { Puts out.old at (row_lines rows.now blocks) result out.new }
     ensures upper_bound { result ≤ at + line_room width * blocks }
 {

@@ -7,7 +7,9 @@ pub fn put(text: &[u8], out: &mut [u8], at: usize) -> usize
     requires { at + length text.now ≤ length out.old }
     ensures { Puts out.old at text.now result out.new }
 {
-    at + bytes::copy(text, &mut out[at..])
+    let behind = at + text.len();
+    out[at..behind].copy_from_slice(text);
+    behind
 }
 
 // A number, in decimal: it has at most 20 digits.
@@ -35,8 +37,8 @@ fn put_ended(n: u64, end: u8, out: &mut [u8], at: usize) -> usize
 
 // A line of numbers: each has a space behind it, but the last has a line feed.
 pub fn put_line(numbers: &[u64], out: &mut [u8], at: usize) -> usize
-    requires in_bounds { 1 ≤ length numbers.now }
-    requires numbers_in_bounds { at + line_room (length numbers.now) ≤ length out.old }
+    requires nonempty { 1 ≤ length numbers.now }
+    requires room { at + line_room (length numbers.now) ≤ length out.old }
     ensures puts { Puts out.old at (line numbers.now) result out.new }
     ensures upper_bound { result ≤ at + line_room (length numbers.now) }
 {

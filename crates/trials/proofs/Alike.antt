@@ -1,7 +1,7 @@
 -- Two lists of rules that are given alike: a refusal by the one is a refusal by the other, and so is a silence.
 -- Assumes nothing.
 use Prim.Native.Nat.{ℕ}
-use mathlib.Core.Path.{sym, subst, ◌≡◌, refl, ◌∙◌}
+use mathlib.Core.Path.{sym, ◌≡◌, refl, ◌∙◌}
 use mathlib.Core.List.{List, [], ◌∷◌}
 use mathlib.Core.Logic.{inl, inr}
 use Rattle.trials.specs.Rules.{Rule, rule, Overall, Refused, Accepted}

@@ -132,7 +132,7 @@ fn write_roll(
     requires even { Even arrivals.now deadlines.now operations.now }
     requires arrivals_len_bound { length arrivals.now ≤ 1024 }
     requires arrivals_in_bounds { roll_long (length arrivals.now) ≤ length part.old }
-    ensures puts { Puts part.old 0 (roll_bytes (record { arrivals = arrivals.entry.now; deadlines = deadlines.now; operations = operations.now; terms = terms })) result part.new }
+    ensures puts { Puts part.old 0 (roll_bytes (record { arrivals = arrivals.now; deadlines = deadlines.now; operations = operations.now; terms = terms })) result part.new }
     ensures records_fit { RecordsFit arrivals.now deadlines.now operations.now (length arrivals.now) }
     ensures reference_bound { terms.reference < 2 ^ 32 }
 {
@@ -158,8 +158,8 @@ pub fn write(
     out: &mut [u8],
     at: usize,
 ) -> WriteReply
-    ensures write_outcome { WriteOutcome (record { arrivals = arrivals.entry.now; deadlines = deadlines.now; operations = operations.now; terms = terms }) out.old at result.number result.place result.bytes out.new }
-    ensures reads_back { result.number ≡ 0 → ReadsBack (take (at + result.bytes) out.new) (record { arrivals = arrivals.entry.now; deadlines = deadlines.now; operations = operations.now; terms = terms }) }
+    ensures write_outcome { WriteOutcome (record { arrivals = arrivals.now; deadlines = deadlines.now; operations = operations.now; terms = terms }) out.old at result.number result.place result.bytes out.new }
+    ensures reads_back { result.number ≡ 0 → ReadsBack (take (at + result.bytes) out.new) (record { arrivals = arrivals.now; deadlines = deadlines.now; operations = operations.now; terms = terms }) }
 {
     let tried = write_rules(
         Verdict::Silent,

@@ -1,0 +1,6 @@
+-- One search for all the rules, in whatever order they stand.
+use Rattle.trials.proofs.Trying.{trying}
+use Rattle.planner.proofs.forms.form_rules.Goals as goal
+
+pub returns : goal.returns
+returns c = search trying depth 40 fits 8000

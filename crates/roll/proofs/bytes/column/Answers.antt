@@ -1,0 +1,12 @@
+-- A loop that fills the front of out.
+use Rattle.lists.proofs.Filling.{filled_none, filled_more, filled_all}
+use Rattle.roll.proofs.bytes.column.Goals as goal
+
+pub loop-i-init : goal.loop-i-init
+loop-i-init c = filled_none
+
+pub loop-i-preserved : goal.loop-i-preserved
+loop-i-preserved c = filled_more c.loop-i.invariant c.loop-i-test.true c.requires.1 c.u32_at.ensures
+
+pub returns : goal.returns
+returns c = filled_all c.loop-i.invariant c.loop-i-test.false
