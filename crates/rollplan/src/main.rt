@@ -41,11 +41,6 @@ fn read_all<R: Read>(input: &mut R, buf: &mut [u8]) -> io::Result<usize>
     Ok(n)
 }
 
-// Whether the program was started with an argument behind its name, empty, long or no text.
-fn has_argument(rt: &impl Env) -> bool {
-    !matches!(rt.arg(1, &mut []), Err(FillError::NotPresent))
-}
-
 // The system's text of an error, without the number of the error that std writes behind it.
 fn reason(text: &str) -> &str {
     match text.split_once(" (os error ") {
@@ -63,7 +58,8 @@ fn fail(rt: &(impl Eprint + AllocGlobal), what: &str, error: io::Error) -> io::R
 // Arguments, reading, the plan, writing. An argument is refused, since whoever gives a file's name
 // would wait for an answer while the program waits for standard input.
 fn main(rt: HostRuntime) -> io::Result<()> {
-    if has_argument(&rt) {
+    // Whatever it is: empty, long or no text. None of it is kept.
+    if !matches!(rt.arg(1, &mut []), Err(FillError::NotPresent)) {
         return eprintln!(rt; "usage: rollplan < FILE (it takes no argument)");
     }
     let mut input = [0u8; INPUT];
