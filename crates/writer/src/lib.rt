@@ -92,7 +92,7 @@ fn write_record(arrival: u32, deadline: u32, operations: u32, part: &mut [u8])
 // Writes the records of three lists at the front of a part. Each is lent the part from its place on.
 fn write_records(arrivals: &[u32], deadlines: &[u32], operations: &[u32], part: &mut [u8])
     requires even { Even arrivals.now deadlines.now operations.now }
-    requires arrivals_in_bounds { 12 * length arrivals.now ≤ length part.old }
+    requires room { 12 * length arrivals.now ≤ length part.old }
     ensures puts { Puts part.old 0 (records_up_to arrivals.now deadlines.now operations.now (length arrivals.now)) (12 * length arrivals.now) part.new }
     ensures records_fit { RecordsFit arrivals.now deadlines.now operations.now (length arrivals.now) }
 {
@@ -106,10 +106,10 @@ fn write_records(arrivals: &[u32], deadlines: &[u32], operations: &[u32], part: 
 
 // Writes a trailer at the front of a part: the numbers, and the mark that the reader compares.
 fn write_trailer(trailer: Trailer, part: &mut [u8])
-    requires in_bounds { 16 ≤ length part.old }
-    requires count_bound { trailer.count ≤ 1024 }
+    requires room { 16 ≤ length part.old }
+    requires few { trailer.count ≤ 1024 }
     ensures puts { Puts part.old 0 (trailer_bytes trailer) 16 part.new }
-    ensures reference_bound { trailer.terms.reference < 2 ^ 32 }
+    ensures reference_fits { trailer.terms.reference < 2 ^ 32 }
 {
     let back = Trailer::BYTES + Trailer::RECORD * trailer.count as usize;
     let terms = trailer.terms;
@@ -118,7 +118,7 @@ fn write_trailer(trailer: Trailer, part: &mut [u8])
     put::put_u16(trailer.count, part, 8);
     put::put_u16(terms.p, part, 10);
     put::put_u16(terms.q, part, 12);
-    bytes::copy(&Trailer::MARK, &mut part[14..]);
+    part[14..16].copy_from_slice(&Trailer::MARK);
 }
 
 // Writes a roll at the front of a part: the records, and the trailer behind them. Its length comes back.
@@ -130,11 +130,11 @@ fn write_roll(
     part: &mut [u8],
 ) -> usize
     requires even { Even arrivals.now deadlines.now operations.now }
-    requires arrivals_len_bound { length arrivals.now ≤ 1024 }
-    requires arrivals_in_bounds { roll_long (length arrivals.now) ≤ length part.old }
+    requires few { length arrivals.now ≤ 1024 }
+    requires room { roll_long (length arrivals.now) ≤ length part.old }
     ensures puts { Puts part.old 0 (roll_bytes (record { arrivals = arrivals.now; deadlines = deadlines.now; operations = operations.now; terms = terms })) result part.new }
     ensures records_fit { RecordsFit arrivals.now deadlines.now operations.now (length arrivals.now) }
-    ensures reference_bound { terms.reference < 2 ^ 32 }
+    ensures reference_fits { terms.reference < 2 ^ 32 }
 {
     let n = arrivals.len();
     let at = Trailer::RECORD * n;

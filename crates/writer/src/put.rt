@@ -24,7 +24,7 @@ pub fn put_u16(n: u32, out: &mut [u8], at: usize)
 pub fn put_u32(n: u32, out: &mut [u8], at: usize)
     requires { at + 4 ≤ length out.old }
     ensures puts { Puts out.old at (le32 n) (at + 4) out.new }
-    ensures n_bound { n < 2 ^ 32 }
+    ensures fits { n < 2 ^ 32 }
 {
     put_u16(n % 65536, out, at);
     put_u16(n / 65536, out, at + 2);
