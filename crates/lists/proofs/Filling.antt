@@ -37,13 +37,13 @@ pub length-map : (g : ℕ → ℕ) (l : List ℕ) → length (map g l) ≡ lengt
 length-map g [] = refl
 length-map g (x ∷ l) = ap suc (length-map g l)
 
-get_d_map : (g : ℕ → ℕ) (l : List ℕ) (k : ℕ) → k < length l → get_or (map g l) k 0 ≡ g (get_or l k 0)
-get_d_map g [] k h = absurd (not-suc-le-zero h)
-get_d_map g (x ∷ l) zero h = refl
-get_d_map g (x ∷ l) (suc k) h = get_d_map g l k (le_of_suc-le-suc h)
+get_or-map : (g : ℕ → ℕ) (l : List ℕ) (k : ℕ) → k < length l → get_or (map g l) k 0 ≡ g (get_or l k 0)
+get_or-map g [] k h = absurd (not-suc-le-zero h)
+get_or-map g (x ∷ l) zero h = refl
+get_or-map g (x ∷ l) (suc k) h = get_or-map g l k (le_of_suc-le-suc h)
 
 pub map-listed : (g : ℕ → ℕ) (l : List ℕ) → map g l ≡ listed (length l) (λ i. g (get_or l i 0))
-map-listed g l = as_listed (map g l) (length l) (λ i. g (get_or l i 0)) (length-map g l) (get_d_map g l)
+map-listed g l = as_listed (map g l) (length l) (λ i. g (get_or l i 0)) (length-map g l) (get_or-map g l)
 
 -- a part of another
 pub part_listed : (l : List ℕ) (from n : ℕ) → from + n ≤ length l → take n (drop from l) ≡ listed n (λ i. get_or l (from + i) 0)

@@ -3,7 +3,7 @@
 -- that run, each the faster of its row's pace and R/T; without a floor they are the rows' paces, every pace is no slower than the floor, and thresholds go up without end.
 -- Nothing is assumed. That the code ends, and that nothing it does is undefined, is not stated here: the language's check of every function shows it (a measure falls at each turn of a loop; every index, slice, sum and product
 -- is shown to be in range). In the verdict of that check `logic-built=trusted` says that the kit's own logic was taken as the kit's makers checked it, and `libraries-built=trusted` that each crate below was taken as its own check
--- left it: `rt ci` makes those checks first, in the same run from nothing, for all but the kit's libraries.
+-- left it: `rt ci` makes those checks first, in the same run or in an earlier one that passed the same files on that machine, for all but the kit's libraries.
 use Rattle.std.proofs.Common.{◌≡◌, ℕ, zero, suc, ◌<◌, ◌↔◌, List, [], ◌∷◌, inl, inr, arith}
 use Rattle.trials.specs.Rules.{Refused}
 use Rattle.trials.proofs.Passing.{Passed, Quiet, finding, first_part}

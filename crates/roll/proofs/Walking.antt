@@ -1,4 +1,4 @@
--- A call, in a walk by hand of a function's MIR: all that is known of the callee is that it meets its contract. And what such a callee asks of a slice. It says nothing of the roll. `read` cites it, and the library's `vakrhildo_read`.
+-- A call, in a walk by hand of a function's MIR: all that is known of the callee is that it meets its contract. And what such a callee asks of a slice. It says nothing of the roll. No proof here cites it: the kit writes the walks now.
 -- Assumes `Logic`.
 use mathlib.Core.Path.{sym, ap, subst}
 use mathlib.Core.List.{List, [], ◌∷◌}

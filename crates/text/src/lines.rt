@@ -17,8 +17,7 @@ pub fn put_first(number: u64, place: u64, blocks: u64, out: &mut [u8], at: usize
     put::put_line(&[number, place, blocks], out, word)
 }
 
-// One number in 64 bits: a function of its own, since the prover does not follow a cast of a
-// slice's number.
+// One number in 64 bits.
 fn wide(n: u32) -> u64
     ensures { result ≡ n }
 {
