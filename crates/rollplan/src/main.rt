@@ -8,12 +8,16 @@ ghost use Rattle.std.specs.Io.KnownBytes.{Consumes, IsAtEnd, ReadConsumes};
 
 use rolltext::Program;
 use std::env::FillError;
+use std::fmt::InlineText;
 use std::io;
 use std::io::Read;
 use std::rt::Env;
 
 // One byte more than the program takes is enough to know that the input is too long.
 const INPUT: usize = Program::INPUT + 1;
+
+// Room for what std says of an error: the system's text, of at most 256 bytes, and the error's number.
+const MESSAGE: usize = 300;
 
 // One read into buf. A read that a signal interrupts counts as failed; a program that handles no
 // signal does not meet it.
@@ -50,9 +54,9 @@ fn reason(text: &str) -> &str {
 }
 
 // A line on standard error: what failed, a colon and the system's text.
-fn fail(rt: &(impl Eprint + AllocGlobal), what: &str, error: io::Error) -> io::Result<()> {
-    let text = format!(in rt.alloc(); "{error}")?;
-    eprintln!(rt; "{what}: {}", reason(&text))
+fn fail(rt: &impl Eprint, what: &str, error: io::Error) -> io::Result<()> {
+    let text = InlineText::<MESSAGE>::of(error);
+    eprintln!(rt; "{what}: {}", reason(text.as_str()))
 }
 
 // Arguments, reading, the plan, writing. An argument is refused, since whoever gives a file's name
