@@ -1,14 +1,17 @@
 -- Rules tried one behind the other.
 -- Assumes nothing.
 use Prim.Native.Nat.{ℕ, ◌≤◌, ◌<◌}
-use mathlib.Core.Path.{◌≡◌, refl, sym, ◌∙◌, subst}
+use mathlib.Core.Path.{◌≡◌, refl, sym, ◌∙◌, ap, subst}
 use mathlib.Core.Bool.{Bool, true, false, not, true≢false}
 use mathlib.Core.List.{List, [], ◌∷◌, ◌++◌}
 use mathlib.Core.Logic.{◌⊎◌, inl, inr, ⊎_elim}
 use native.Mathlib.Omega.{arith}
 use lib.Dec.{ltb, eqb}
 use borrow.Author.Tests.{ltb-true, ltb-false, eqb-true, eqb-false, not-true, not-false}
-use Rattle.std.specs.Prelude.{Option, Some, None, Ok, Err}
+use Rattle.std.specs.Prelude.{Option, Some, None, Ok, Err, IsErr, IsErrAnd}
+use Rattle.std.specs.Result.{result_from_control_flow}
+use Rattle.std.proofs.Common.{Continue, Break}
+use Rattle.std.proofs.lemmas.Result.{err_from_is_err_and}
 use Rattle.answers.specs.Numbers.{number}
 use Rattle.answers.specs.declared.Fault.{Fault}
 use Rattle.answers.specs.declared.Refusal.{Refusal}
@@ -54,9 +57,17 @@ after_none {v} = record { is = none_is v }
 pub after_append : (ps qs : List Rule) {v w r : Verdict} → After v ps w → After w qs r → After v (ps ++ qs) r
 after_append ps qs {v} {w} {r} a b = record { is = append_is ps qs v w r a.is b.is }
 
--- behind a silence the rules are tried
-pub go_on : {v r : Verdict} {qs : List Rule} → v ≡ Ok tt → After (Ok tt) qs r → After v qs r
-go_on {v} {r} {qs} e a = subst (λ (x : Verdict). After x qs r) (sym e) a
+-- ---- what a `?` does
+-- it hands a refusal on
+pub handed_on : {v r : Verdict} {b : _} {e : _} {qs : List Rule} → v ≡ result_from_control_flow b → b ≡ Break e → IsErr r × IsErrAnd r (λ a. a ≡ e.0) → After v qs r
+handed_on {v} {r} {b} {e} {qs} f g h =
+    let p = err_from_is_err_and r h.1 in
+    let k : r ≡ Err e.0 = p.1 ∙ ap Err p.2 in
+    subst (λ (x : Verdict). After v qs x) (sym k) (after_stop (f ∙ ap result_from_control_flow g))
+
+-- and goes on behind a silence
+pub go_on : {v r : Verdict} {b : _} {u : Unit {0}} {qs : List Rule} → v ≡ result_from_control_flow b → b ≡ Continue u → After (Ok tt) qs r → After v qs r
+go_on {v} {r} {b} {u} {qs} f g a = subst (λ (x : Verdict). After x qs r) (sym (f ∙ ap result_from_control_flow g)) a
 
 -- ---- one rule, and those behind it
 -- the verdict of a test that decides the rule
@@ -120,7 +131,7 @@ pub tells_second : {P Q : Type 0} {b : Bool} → (P → ⊥) → Tells Q b → T
 tells_second n t = record { yes = λ e. inr (t.yes e); no = λ e o. ⊎_elim n (t.no e) o }
 
 -- what search is handed for rules tried in their order
-pub ruleset trying = (overall_cons, least_cons, first_long, after_none, after_stop, go_on, tells_below, tells_equal, tells_different)
+pub ruleset trying = (overall_cons, least_cons, first_long, after_none, handed_on, go_on, tells_below, tells_equal, tells_different)
 
 -- ---- the verdict, taken apart
 silent_is : (rules : List Rule) (v : Verdict) → v ≡ Ok tt → AfterIs (Ok tt) rules v → Accepted rules
