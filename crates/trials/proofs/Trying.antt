@@ -8,7 +8,7 @@ use mathlib.Core.Logic.{◌⊎◌, inl, inr, ⊎_elim}
 use native.Mathlib.Omega.{arith}
 use lib.Dec.{ltb, eqb}
 use borrow.Author.Tests.{ltb-true, ltb-false, eqb-true, eqb-false, not-true, not-false}
-use Rattle.std.specs.Prelude.{Option, Some, None, Ok, Err, IsErr, IsErrAnd}
+use Rattle.std.specs.Prelude.{Option, Some, None, Result, Ok, Err, IsErr, IsErrAnd}
 use Rattle.std.specs.Result.{result_from_control_flow}
 use Rattle.std.proofs.Common.{Continue, Break}
 use Rattle.std.proofs.lemmas.Result.{err_from_is_err_and}
@@ -149,3 +149,7 @@ passed {rules} {v} a e = record { accepted = silent_is rules v e a.is }
 -- a refusal: the first rule that is given
 pub refuses : {rules : List Rule} {v : Verdict} {a : Refusal} → After (Ok tt) rules v → v ≡ Err a → Refuses rules a
 refuses {rules} {v} {a} x e = given_is rules v a e x.is
+
+-- and the same where a `?` hands it on, as the refusal of another function
+pub refuses_on : {X : Type 0} {rules : List Rule} {v : Verdict} {a : Refusal} {r : Result X Refusal} → After (Ok tt) rules v → v ≡ Err a → IsErr r × IsErrAnd r (λ e. e ≡ a) → Refuses rules a × (r ≡ Err a)
+refuses_on {r = r} x e h = let p = err_from_is_err_and r h.1 in (refuses x e, p.1 ∙ ap Err p.2)
