@@ -2,13 +2,6 @@
 // reads it. The bytes are specs/Bytes.antt, what comes back specs/Writing.antt.
 #![tactic(auto)]
 
-use answers::Refusal;
-use roll::Trailer;
-use rules::Roll;
-use trials::{Verdict, or_if};
-
-mod put;
-
 ghost use Rattle.std.specs.Prelude.{◌≡◌, ◌⊎◌, ◌+◌, ◌*◌, ◌^◌, ◌≤◌, ◌<◌, length, take};
 ghost use Rattle.lists.specs.Puts.{Puts};
 ghost use Rattle.trials.specs.Tries.{Tells, After};
@@ -16,6 +9,12 @@ ghost use Rattle.rules.specs.Leaves.{Even};
 ghost use Rattle.writer.specs.Bytes.{record_bytes, records_up_to, roll_long, trailer_bytes, roll_bytes, ReadsBack};
 ghost use Rattle.writer.specs.Writing.{write_rules, WriteOutcome};
 ghost use Rattle.writer.specs.Inside.{RecordFits, RecordsFit};
+
+use answers::Refusal;
+use lists::put;
+use roll::Trailer;
+use rules::Roll;
+use trials::{Verdict, or_if};
 
 // What the writer answers: the number of the refusal, 0 where there is none; its place, 0 always; and
 // how many bytes were written, 0 on a refusal.
@@ -84,9 +83,9 @@ fn write_record(arrival: u32, deadline: u32, operations: u32, part: &mut [u8])
     ensures puts { Puts part.old 0 (record_bytes arrival deadline operations) 12 part.new }
     ensures record_fits { RecordFits arrival deadline operations }
 {
-    put::put_u32(arrival, part, 0);
-    put::put_u32(deadline, part, 4);
-    put::put_u32(operations, part, 8);
+    let at = put(&arrival.to_le_bytes(), part, 0);
+    let at = put(&deadline.to_le_bytes(), part, at);
+    put(&operations.to_le_bytes(), part, at);
 }
 
 // Writes the records of three lists at the front of a part. Each is lent the part from its place on.
@@ -96,11 +95,9 @@ fn write_records(arrivals: &[u32], deadlines: &[u32], operations: &[u32], part: 
     ensures puts { Puts part.old 0 (records_up_to arrivals.now deadlines.now operations.now (length arrivals.now)) (12 * length arrivals.now) part.new }
     ensures records_fit { RecordsFit arrivals.now deadlines.now operations.now (length arrivals.now) }
 {
-    let mut i = 0;
-    while i < arrivals.len() {
+    for i in 0..arrivals.len() {
         let at = Trailer::RECORD * i;
         write_record(arrivals[i], deadlines[i], operations[i], &mut part[at..]);
-        i += 1;
     }
 }
 
@@ -108,17 +105,18 @@ fn write_records(arrivals: &[u32], deadlines: &[u32], operations: &[u32], part: 
 fn write_trailer(trailer: Trailer, part: &mut [u8])
     requires room { 16 ≤ length part.old }
     requires few { trailer.count ≤ 1024 }
+    requires narrow { (trailer.terms.p ≤ 65535) × (trailer.terms.q ≤ 65535) }
     ensures puts { Puts part.old 0 (trailer_bytes trailer) 16 part.new }
     ensures reference_fits { trailer.terms.reference < 2 ^ 32 }
 {
     let back = Trailer::BYTES + Trailer::RECORD * trailer.count as usize;
     let terms = trailer.terms;
-    put::put_u32(back as u32, part, 0);
-    put::put_u32(terms.reference, part, 4);
-    put::put_u16(trailer.count, part, 8);
-    put::put_u16(terms.p, part, 10);
-    put::put_u16(terms.q, part, 12);
-    part[14..16].copy_from_slice(&Trailer::MARK);
+    let at = put(&(back as u32).to_le_bytes(), part, 0);
+    let at = put(&terms.reference.to_le_bytes(), part, at);
+    let at = put(&(trailer.count as u16).to_le_bytes(), part, at);
+    let at = put(&(terms.p as u16).to_le_bytes(), part, at);
+    let at = put(&(terms.q as u16).to_le_bytes(), part, at);
+    put(&Trailer::MARK, part, at);
 }
 
 // Writes a roll at the front of a part: the records, and the trailer behind them. Its length comes back.
@@ -131,6 +129,7 @@ fn write_roll(
 ) -> usize
     requires even { Even arrivals.now deadlines.now operations.now }
     requires few { length arrivals.now ≤ 1024 }
+    requires narrow { (terms.p ≤ 65535) × (terms.q ≤ 65535) }
     requires room { roll_long (length arrivals.now) ≤ length part.old }
     ensures puts { Puts part.old 0 (roll_bytes (record { arrivals = arrivals.now; deadlines = deadlines.now; operations = operations.now; terms = terms })) result part.new }
     ensures records_fit { RecordsFit arrivals.now deadlines.now operations.now (length arrivals.now) }

@@ -50,6 +50,13 @@ write_roll-bytes-requires-clause-few c =
     let l : Writable x a.out.now a.at = leaves x a.out.now a.at (passed c.write_rules-tried.ensures c.in_default.is) in
     l.few
 
+pub write_roll-bytes-requires-clause-narrow : goal.write_roll-bytes-requires-clause-narrow
+write_roll-bytes-requires-clause-narrow c =
+    let a = c.args in
+    let x : Listing = record { arrivals = a.arrivals.now; deadlines = a.deadlines.now; operations = a.operations.now; terms = a.terms } in
+    let l : Writable x a.out.now a.at = leaves x a.out.now a.at (passed c.write_rules-tried.ensures c.in_default.is) in
+    (l.p_most, l.q_most)
+
 pub write_roll-bytes-requires-clause-room : goal.write_roll-bytes-requires-clause-room
 write_roll-bytes-requires-clause-room c =
     let a = c.args in
