@@ -12,7 +12,7 @@ use Rattle.trials.proofs.Deciding.{Decides, Gives, deciding, passed_or_given}
 use Rattle.writer.specs.Bytes.{Listing}
 use Rattle.writer.specs.Writing.{rules_for, WriteOutcome}
 use Rattle.writer.specs.declared.WriteReply.{WriteReply}
-use Rattle.writer.proofs.Outcomes.{refused_write, written, all_put}
+use Rattle.writer.proofs.Outcomes.{refused, written, all_put}
 
 module _ (x : Listing) (before : List ℕ) (at : ℕ) where
   -- each rule is given with one place only
@@ -53,5 +53,5 @@ module _ (x : Listing) (before : List ℕ) (at : ℕ) where
   some_write =
       ⊎_elim
       (λ (p : Passed (rules_for x before at)). let w = all_put x before at in (0, 0, w.0, w.1, written x before at w.0 p w.2))
-      (λ (g : Gives (rules_for x before at)). (g.number, g.place, 0, before, refused_write x before at (record { refused = g.refused; numbered = g.numbered })))
+      (λ (g : Gives (rules_for x before at)). (g.number, g.place, 0, before, refused x before at g.number g.place g.numbered g.refused))
       (passed_or_given decides_write)
