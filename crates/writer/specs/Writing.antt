@@ -1,7 +1,7 @@
 -- What the writer of a roll gives (02, W1): its refusals and their order, and what the buffer then holds.
 -- Assumes nothing.
-use Rattle.std.specs.Prelude.{ℕ, zero, suc, ◌+◌, ◌≤◌, ◌<◌, ◌≡◌, List, [], ◌∷◌, ◌⊎◌, length, Result, Ok, Err}
-use Rattle.answers.specs.Numbers.{number_of, place_of}
+use Rattle.std.specs.Prelude.{ℕ, zero, suc, ◌+◌, ◌≤◌, ◌<◌, ◌≡◌, List, [], ◌∷◌, ◌⊎◌, length, Result}
+use Rattle.answers.specs.Numbers.{number_of, place_of, blocks_of}
 use Rattle.answers.specs.declared.Refusal.{Refusal}
 use Rattle.lists.specs.Puts.{Puts}
 use Rattle.trials.specs.Rules.{Rule, rule, Overall, Refused, Accepted}
@@ -42,8 +42,7 @@ Wrote = Result ℕ Refusal
 
 -- How many bytes an answer says were written: 0 on a refusal.
 abbrev pub bytes_of : Wrote → ℕ
-bytes_of (Ok bytes) = bytes
-bytes_of (Err refusal) = 0
+bytes_of answer = blocks_of answer
 
 -- A reply is an answer of the writer in 01's numbers.
 pub record InBytes (answer : Wrote) (reply : WriteReply) : Type 0 where
