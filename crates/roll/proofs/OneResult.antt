@@ -6,6 +6,8 @@ use mathlib.Core.List.{List}
 use mathlib.Core.Logic.{◌⊎◌, ⊎_elim}
 use native.Mathlib.Omega.{arith}
 use denote.Ref.{Bor}
+use Rattle.std.specs.Prelude.{Result, Ok, Err}
+use Rattle.answers.specs.declared.Refusal.{Refusal}
 use Rattle.trials.specs.Rules.{Accepted, Refused}
 use Rattle.trials.proofs.Passing.{Passed, last_part}
 use Rattle.trials.proofs.Single.{Soles, singly, not_refused, one_refuses}
@@ -29,8 +31,6 @@ use Rattle.roll.specs.declared.Ending.{Ending}
 use Rattle.roll.specs.declared.FloorNumbers.{FloorNumbers}
 use Rattle.roll.specs.declared.Numbers.{Numbers}
 use Rattle.roll.specs.declared.Reading.{Reading}
-use Rattle.roll.specs.declared.TrailerAnswer.{TrailerAnswer}
-use Rattle.roll.specs.declared.TrailerAnswer.TheVariants.{Is, Not}
 use Rattle.roll.proofs.Marking.{dec_marked}
 
 -- ---- each rule is given with one place only
@@ -76,12 +76,12 @@ one_ending s e f v w =
     ap (λ (t : Trailer). ending t e.floor) (one_trailer s e.trailer f.trailer v.trailer_is w.trailer_is) ∙ ap (ending f.trailer) (v.floor_is ∙ sym w.floor_is)
 
 -- The promise of `read_trailer` allows one answer for each string of bytes.
-pub one_trailer_answer : (s : List ℕ) (r r' : TrailerAnswer) → TrailerAnswerIs s r → TrailerAnswerIs s r' → r ≡ r'
+pub one_trailer_answer : (s : List ℕ) (r r' : Result Ending Refusal) → TrailerAnswerIs s r → TrailerAnswerIs s r' → r ≡ r'
 unfolding TrailerAnswerIs
-one_trailer_answer s (Is e) (Is f) v w = ap Is (one_ending s e f v.1 w.1)
-one_trailer_answer s (Is e) (Not b) v w = absurd (not_refused (file_rules s) v.0 b.number b.place w.refused)
-one_trailer_answer s (Not a) (Is f) v w = absurd (not_refused (file_rules s) w.0 a.number a.place v.refused)
-one_trailer_answer s (Not a) (Not b) v w = ap Not (one_refuses (single_file s) v w)
+one_trailer_answer s (Ok e) (Ok f) v w = ap Ok (one_ending s e f v.1 w.1)
+one_trailer_answer s (Ok e) (Err b) v w = absurd (not_refused (file_rules s) v.0 b.number b.place w.refused)
+one_trailer_answer s (Err a) (Ok f) v w = absurd (not_refused (file_rules s) w.0 a.number a.place v.refused)
+one_trailer_answer s (Err a) (Err b) v w = ap Err (one_refuses (single_file s) v w)
 
 -- ---- every string of bytes is accepted or refused by the file rules
 pub decides_file : (s : List ℕ) → Decides (file_rules s)
