@@ -16,7 +16,8 @@ use Rattle.critical.proofs.Theorems.{one_list_of_rows, first_failure, not_both}
 use Rattle.slowest.specs.Slowest.{UpTo, NoSlower, PlannableWithin}
 use Rattle.slowest.proofs.Theorems.{runs_within, runs_allowed, plan_within, runs_least_sum, runs_least_sum_above, runs_least_cost}
 use Rattle.rules.specs.Offsets.{Input, reports_of, fastest_of, slowest_of}
-use Rattle.rules.specs.declared.Floor.{Floor}
+use Rattle.std.specs.Prelude.{Option}
+use Rattle.fraction.specs.declared.Pace.{Pace}
 use Rattle.rules.specs.Rules.{pace_rule, below_rule, earlier_rules, plan_rule, plan_rules}
 use Rattle.planner.specs.Outcome.{row_at, plan_in, running_in, WellFormed, Outcome, PlanOutcome}
 use Rattle.rules.proofs.Leaving.{good_pace}
@@ -69,7 +70,7 @@ and_no_others x place blocks after fastest m rows o c =
 
 -- The floor does not move them: with another floor, or with none, an accepted list has the same rows.
 pub whatever_the_floor :
-    (x : Input) (floor : Floor) (place blocks place' blocks' : ℕ) (after after' : List ℕ) →
+    (x : Input) (floor : Option Pace) (place blocks place' blocks' : ℕ) (after after' : List ℕ) →
     PlanOutcome x 0 place blocks after →
     PlanOutcome (record { arrivals = x.arrivals; deadlines = x.deadlines; operations = x.operations; terms = x.terms; floor = floor; buffer = x.buffer }) 0 place' blocks' after' →
     (blocks ≡ blocks') × (after ≡ after')

@@ -1,9 +1,8 @@
 -- The promise of `plan` allows one answer and one buffer for each input, and there is one for each.
 -- Assumes nothing.
 use Rattle.std.proofs.Common.{◌≡◌, ℕ, zero, suc, ◌+◌, ◌*◌, ◌/◌, ◌%◌, ◌<◌, List, length, get_or, sym, refl, ap, ◌∙◌, subst, arith, ext_get_or}
-use Rattle.answers.specs.Numbers.{width, number_of, place_of, blocks_of, Proper}
-use Rattle.answers.specs.declared.Answer.{Answer}
-use Rattle.answers.proofs.Replies.{same_answer}
+use Rattle.answers.specs.Numbers.{Answer, width, number_of, place_of, blocks_of}
+use Rattle.answers.proofs.Replies.{always_proper, same_answer}
 use Rattle.trials.specs.Rules.{Rule}
 use Rattle.trials.proofs.Passing.{Passed}
 use Rattle.trials.proofs.Single.{Soles, one_refusal, not_refused}
@@ -70,10 +69,10 @@ pub one_result :
     (number ≡ number') × (place ≡ place') × (blocks ≡ blocks') × (after ≡ after')
 one_result x = one_outcome (plan_rules x) (reports_of x) (fastest_of x) x.buffer (single_rules x) (works x)
 
--- And one answer: the enum itself.
+-- And one answer, whatever its numbers are called: the Result itself.
 pub one_answer :
     (x : Input) (a b : Answer) (after after' : List ℕ) →
-    PlanOutcome x (number_of a) (place_of a) (blocks_of a) after × Proper a → PlanOutcome x (number_of b) (place_of b) (blocks_of b) after' × Proper b → (a ≡ b) × (after ≡ after')
+    PlanOutcome x (number_of a) (place_of a) (blocks_of a) after → PlanOutcome x (number_of b) (place_of b) (blocks_of b) after' → (a ≡ b) × (after ≡ after')
 one_answer x a b after after' v w =
-    let e = one_result x (number_of a) (place_of a) (blocks_of a) (number_of b) (place_of b) (blocks_of b) after after' v.0 w.0 in
-    (same_answer a b v.1 w.1 e.0 e.1 e.2, e.3)
+    let e = one_result x (number_of a) (place_of a) (blocks_of a) (number_of b) (place_of b) (blocks_of b) after after' v w in
+    (same_answer a b (always_proper a) (always_proper b) e.0 e.1 e.2, e.3)

@@ -1,10 +1,14 @@
 -- Outcomes: a refusal stands whatever rules follow, a silence leaves it to them; rule 9 and the rows; and offsets for readings.
 -- Assumes nothing.
 use Rattle.std.proofs.Common.{◌≡◌, ℕ, zero, suc, ◌<◌, ◌≤◌, ◌⊎◌, List, [], ◌∷◌, ◌++◌, map, length, take, sym, refl, ap, ◌∙◌, subst, subst₂, inl, inr, ⊎_elim, arith}
+use Rattle.std.specs.Prelude.{Ok, Err, IsErr, IsErrAnd}
+use Rattle.answers.specs.Numbers.{Answer, number, number_of, place_of, blocks_of}
 use Rattle.answers.specs.declared.Refusal.{Refusal}
+use Rattle.answers.proofs.Replies.{numbered}
 use Rattle.trials.specs.Rules.{Rule, Refused, Accepted, Refuses}
 use Rattle.trials.proofs.Passing.{Passed, both, first_part, last_part}
-use Rattle.trials.proofs.Trying.{refused_first, refused_later}
+use Rattle.trials.specs.Tries.{Verdict, After}
+use Rattle.trials.proofs.Trying.{refused_first, refused_later, refuses_on}
 use Rattle.trials.proofs.Numbers.{refused_by_either}
 use Rattle.fraction.specs.Fraction.{Fraction, over}
 use Rattle.critical.specs.Reports.{Reports, list_of, Positive, Plannable, FirstWithout}
@@ -19,14 +23,20 @@ use Rattle.rules.specs.declared.Roll.{Roll}
 use Rattle.lists.proofs.Filling.{length-map}
 
 module _ (ℓ : Reports) (f : Fraction) (before : List ℕ) where
-  refused : (rules : List Rule) (number place : ℕ) → 0 < number → Refused rules number place → Outcome rules ℓ f before number place 0 before
+  refused : (rules : List Rule) (n place : ℕ) → 0 < n → Refused rules n place → Outcome rules ℓ f before n place 0 before
   unfolding Outcome
   refused rules zero place h r = absurd (omega arith)
   refused rules (suc k) place h r = (r, refl, refl)
 
   -- a refusal stands, whatever rules follow
-  pub hands_up : (ps qs : List Rule) {a : Refusal} → Refuses ps a → Outcome (ps ++ qs) ℓ f before a.number a.place 0 before
-  hands_up ps qs {a} r = refused (ps ++ qs) a.number a.place r.numbered (refused_first ps qs a.number a.place r.refused)
+  pub hands_up : (ps qs : List Rule) {a : Refusal} → Refuses ps a → Outcome (ps ++ qs) ℓ f before (number a.fault) a.place 0 before
+  hands_up ps qs {a} r = refused (ps ++ qs) (number a.fault) a.place (numbered a.fault) (refused_first ps qs (number a.fault) a.place r.refused)
+
+  -- so does one that a `?` hands on
+  pub handed_up : (ps qs : List Rule) {v : Verdict} {a : Refusal} (r : Answer) → After (Ok tt) ps v → v ≡ Err a → IsErr r × IsErrAnd r (λ e. e ≡ a) → Outcome (ps ++ qs) ℓ f before (number_of r) (place_of r) (blocks_of r) before
+  handed_up ps qs {a = a} r t e h =
+      let p = refuses_on {rules = ps} {r = r} t e h in
+      subst (λ (x : Answer). Outcome (ps ++ qs) ℓ f before (number_of x) (place_of x) (blocks_of x) before) (sym p.1) (hands_up ps qs p.0)
 
   -- a silence leaves it to the rules that follow
   pub goes_on : (ps qs : List Rule) (number place blocks : ℕ) (after : List ℕ) → Passed ps → Outcome qs ℓ f before number place blocks after → Outcome (ps ++ qs) ℓ f before number place blocks after

@@ -20,7 +20,7 @@ use Rattle.planner.specs.Inside.{put_row}
 use Rattle.lists.proofs.Filling.{length-map}
 use Rattle.planner.proofs.Writing.{length-put, put_behind, row_other, row_put}
 use Rattle.rules.proofs.Leaving.{enough_room, good_pace, working}
-use Rattle.planner.proofs.Outcomes.{hands_up, accepts, rejects, positive}
+use Rattle.planner.proofs.Outcomes.{refused_outcome, accepts, rejects, positive}
 
 -- ---- rows in a buffer
 -- the numbers of a row
@@ -89,7 +89,7 @@ module _ (x : Input) where
   some_refusal : Gives (earlier_rules x) → Some
   unfolding Some
   some_refusal g =
-      (g.number, g.place, 0, x.buffer, hands_up ℓ f x.buffer (earlier_rules x) (plan_rule ℓ f ∷ []) (record { refused = g.refused; numbered = g.numbered }))
+      (g.number, g.place, 0, x.buffer, refused_outcome ℓ f x.buffer (earlier_rules x) (plan_rule ℓ f ∷ []) g.number g.place 0 x.buffer (record { numbered = g.numbered; refused = g.refused; no_blocks = refl; untouched = refl }))
 
   -- none is: rule 9 is given, or there are rows
   some_plan : Passed (earlier_rules x) → Some

@@ -17,13 +17,13 @@ use Rattle.critical.proofs.Table as Definitions
 use Rattle.rules.specs.Offsets.{Input, reports_of, fastest_of}
 use Rattle.rules.specs.Rules.{OfFloor, pace_rule, plan_rule, earlier_rules}
 use Rattle.rules.specs.declared.Roll.{Roll}
-use Rattle.rules.specs.declared.Floor.{Floor}
-use Rattle.rules.specs.declared.Floor.TheVariants.{Absent, Slowest}
+use Rattle.std.specs.Prelude.{Option, None, Some}
+use Rattle.fraction.specs.declared.Pace.{Pace}
 use Rattle.rules.proofs.Leaving.{good_pace}
 use Rattle.rules.proofs.Floors.{dec_floor, dec_slower}
 use Rattle.rules.proofs.Table.{decided}
 use Rattle.planner.specs.Outcome.{row_at, Written, PlanOutcome}
-use Rattle.planner.proofs.Outcomes.{hands_up, accepts, rejects, positive}
+use Rattle.planner.proofs.Outcomes.{refused_outcome, accepts, rejects, positive}
 
 -- what a list gets: rows, or a refusal with its number and place
 pub data Result : Type 0 where
@@ -36,7 +36,7 @@ pub record Entry : Type 0 where
   pub deadlines : List ℕ
   pub operations : List ℕ
   pub terms : Roll
-  pub floor : Floor
+  pub floor : Option Pace
   pub room : ℕ
   pub result : Result
 
@@ -96,7 +96,7 @@ entry a d w reference p q r = record {
   deadlines = d;
   operations = w;
   terms = record { reference = reference; p = p; q = q };
-  floor = Absent;
+  floor = None;
   room = width * length a + 2;
   result = r;
 }
@@ -111,7 +111,7 @@ within n e = record { arrivals = e.arrivals; deadlines = e.deadlines; operations
 
 -- one with the floor R/T besides
 abbrev slowest : ℕ → ℕ → Entry → Entry
-slowest r t e = record { arrivals = e.arrivals; deadlines = e.deadlines; operations = e.operations; terms = e.terms; floor = Slowest r t; room = e.room; result = e.result }
+slowest r t e = record { arrivals = e.arrivals; deadlines = e.deadlines; operations = e.operations; terms = e.terms; floor = Some (record { ticks = r; operations = t }); room = e.room; result = e.result }
 
 -- a result of the definitions' table
 abbrev result_of : Definitions.Result → Result
@@ -219,7 +219,7 @@ module _ (x : Input) where
   sound (inr g) (planned rows) t = absurd t
   sound (inr g) (refused number place) t =
       let s = (same g number place).sound t in
-      rw (s.0, s.1) (hands_up ℓ f x.buffer (earlier_rules x) (plan_rule ℓ f ∷ []) (record { refused = g.refused; numbered = g.numbered }))
+      rw (s.0, s.1) (refused_outcome ℓ f x.buffer (earlier_rules x) (plan_rule ℓ f ∷ []) g.number g.place 0 x.buffer (record { numbered = g.numbered; refused = g.refused; no_blocks = refl; untouched = refl }))
 
 -- the rules before rule 9 are decided by computing, and so is the rest
 test : Entry → Bool

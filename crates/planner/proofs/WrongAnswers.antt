@@ -2,11 +2,12 @@
 -- the same input is then shut out, since the promise allows one result only.
 -- Assumes nothing.
 use Rattle.std.proofs.Common.{◌≡◌, ℕ, ◌<◌, List, [], ◌∷◌, get_or, replicate, ap, arith}
-use Rattle.answers.specs.Numbers.{Proper}
-use Rattle.answers.specs.declared.Answer.TheVariants.{Refused}
+use Rattle.std.specs.Prelude.{None}
+use Rattle.answers.specs.Numbers.{number}
+use Rattle.answers.specs.declared.Refusal.{Refusal}
+use Rattle.answers.proofs.Replies.{numbered}
 use Rattle.critical.proofs.Table as Definitions
 use Rattle.rules.specs.Offsets.{Input}
-use Rattle.rules.specs.declared.Floor.TheVariants.{Absent}
 use Rattle.planner.specs.Outcome.{PlanOutcome}
 use Rattle.planner.proofs.OneResult.{one_result}
 use Rattle.planner.proofs.Table.{AllGiven, starred, starred_given, given_from}
@@ -19,8 +20,8 @@ pub no_refusal_touches_the_buffer :
 no_refusal_touches_the_buffer x number place blocks after h touched o = touched (a_refusal_writes_nothing x number place blocks after h o).2
 
 -- A planner that refuses without a number. For an empty list 01's three numbers would let it pass, since they are those of a plan without blocks.
-pub not_refused_without_a_number : (place : ℕ) → Proper (Refused (record { number = 0; place = place })) → ⊥
-not_refused_without_a_number place p = omega (arith, p)
+pub not_refused_without_a_number : (refusal : Refusal) → number refusal.fault ≡ 0 → ⊥
+not_refused_without_a_number refusal e = omega (arith, e, numbered refusal.fault)
 
 -- Where one answer is right, another is not.
 module _ (x : Input) (number place blocks : ℕ) (after : List ℕ) (right : PlanOutcome x number place blocks after) where
@@ -40,7 +41,7 @@ crowded = record {
   deadlines = 4 ∷ 20 ∷ 16 ∷ [];
   operations = 2 ∷ 2 ∷ 2 ∷ [];
   terms = record { reference = 0; p = 1; q = 1 };
-  floor = Absent;
+  floor = None;
   buffer = replicate 17 7;
 }
 

@@ -8,10 +8,9 @@ use Rattle.critical.specs.Rows.{Critical}
 use Rattle.critical.proofs.Lines.{span}
 use Rattle.critical.proofs.Room.{Roomy}
 use Rattle.critical.proofs.Search.{Stretch, Scan, Found, Ready, floor, row_of}
-use Rattle.answers.specs.Numbers.{number_of, place_of, blocks_of, width}
+use Rattle.answers.specs.Numbers.{Answer, number_of, place_of, blocks_of, width}
 use Rattle.trials.specs.Rules.{Rule}
 use Rattle.planner.specs.Outcome.{row_at, Outcome}
-use Rattle.answers.specs.declared.Answer.{Answer}
 use Rattle.rules.specs.Offsets.{pace_of}
 use Rattle.rules.specs.declared.Roll.{Roll}
 use Rattle.planner.specs.declared.search.Mark.{Mark}

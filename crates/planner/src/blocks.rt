@@ -16,18 +16,14 @@ fn later(a: u32, b: u32) -> u32
     if a < b { b } else { a }
 }
 
-// Writes row k of a buffer, number by number.
+// Writes row k of a buffer.
 fn put_row(rows: &mut [u32], k: usize, row: Row)
     requires { width * k + width ≤ length rows.old }
     ensures { rows.new ≡ put_row rows.old k (numbers_of row) }
 {
-    let numbers = row.numbers();
     let at = Row::WIDTH * k;
-    let mut j = 0;
-    while j < Row::WIDTH {
-        rows[at + j] = numbers[j];
-        j += 1;
-    }
+    let numbers: [u32; Row::WIDTH] = row.into();
+    rows[at..at + Row::WIDTH].copy_from_slice(&numbers);
 }
 
 // Finds the blocks of the list, writes their rows and returns how many there are.

@@ -4,8 +4,8 @@
 #![tactic(auto)]
 
 use answers::Answer;
-use rules::{Floor, Roll, count_rules};
-use trials::Verdict;
+use fraction::Pace;
+use rules::{ReportList, count_rules};
 
 mod blocks;
 mod forms;
@@ -14,35 +14,23 @@ mod readings;
 mod search;
 mod settle;
 
-ghost use Rattle.answers.specs.Numbers.{Proper, number_of, place_of, blocks_of};
+ghost use Rattle.answers.specs.Numbers.{number_of, place_of, blocks_of};
+ghost use Rattle.rules.specs.Offsets.{input};
 ghost use Rattle.planner.specs.Outcome.{PlanOutcome};
 
-// Plans a list: three lists of readings, the terms that they come with (reference, P and Q), the floor
-// that may be absent, and a buffer for rows. What comes back, and what the buffer then holds, is
-// PlanOutcome, for every input. The floor is tried by its rules; the rows are the same with it and
-// without.
-pub fn plan(
-    arrivals: &[u32],
-    deadlines: &[u32],
-    operations: &[u32],
-    terms: Roll,
-    floor: Floor,
-    rows: &mut [u32],
-) -> Answer
-    ensures plan_outcome { PlanOutcome (record { arrivals = arrivals.now; deadlines = deadlines.now; operations = operations.now; terms = terms; floor = floor; buffer = rows.old }) (number_of result) (place_of result) (blocks_of result) rows.new }
-    ensures proper { Proper result }
+// Plans a list of readings with the terms that they come with, the floor that may be absent, and a
+// buffer for rows. What comes back, and what the buffer then holds, is PlanOutcome, for every input. The
+// floor is tried by its rules; the rows are the same with it and without.
+pub fn plan(list: ReportList<'_>, floor: Option<Pace>, rows: &mut [u32]) -> Answer
+    ensures { PlanOutcome (input list.entry floor rows.old) (number_of result) (place_of result) (blocks_of result) rows.new }
 {
-    let tried = count_rules(
-        Verdict::Silent,
-        arrivals.len(),
-        deadlines.len(),
-        operations.len(),
-        terms,
+    count_rules(
+        list.arrivals.len(),
+        list.deadlines.len(),
+        list.operations.len(),
+        list.terms,
         floor,
         rows.len(),
-    );
-    if let Verdict::Given(refusal) = tried {
-        return Answer::Refused(refusal);
-    }
-    settle::settle_readings(arrivals, deadlines, operations, terms, rows)
+    )?;
+    settle::settle_readings(list, rows)
 }

@@ -1,6 +1,6 @@
 // What is left once the whole list is in order: the rules of its reports, on offsets, and the plan.
 ghost use Rattle.std.specs.Prelude.{◌*◌, ◌≤◌, [], ◌∷◌, length};
-ghost use Rattle.answers.specs.Numbers.{Proper, width};
+ghost use Rattle.answers.specs.Numbers.{width};
 ghost use Rattle.critical.specs.Reports.{list_of};
 ghost use Rattle.rules.specs.Offsets.{offsets_of, pace_of};
 ghost use Rattle.rules.specs.Rules.{plan_rule, report_rules};
@@ -8,9 +8,8 @@ ghost use Rattle.rules.specs.Leaves.{Fair, Paced, Sized};
 ghost use Rattle.planner.specs.Inside.{Settles};
 
 use crate::{blocks, forms, pass, readings};
-use answers::{Answer, Refusal};
-use rules::Roll;
-use trials::Verdict;
+use answers::{Answer, Fault, Refusal};
+use rules::{ReportList, Roll};
 
 // Rule 9, decided before the first row is written, and the rows.
 fn plan_fair(
@@ -23,18 +22,16 @@ fn plan_fair(
     requires fair { Fair arrivals.now deadlines.now operations.now }
     requires room { width * length arrivals.now ≤ length rows.old }
     requires pace { Paced terms }
-    ensures settles { Settles (plan_rule (list_of arrivals.now deadlines.now operations.now) (pace_of terms) ∷ []) (list_of arrivals.now deadlines.now operations.now) terms rows.old result rows.new }
-    ensures proper { Proper result }
+    ensures { Settles (plan_rule (list_of arrivals.now deadlines.now operations.now) (pace_of terms) ∷ []) (list_of arrivals.now deadlines.now operations.now) terms rows.old result rows.new }
 {
     let without = pass::first_without(arrivals, deadlines, operations, terms);
     if without < arrivals.len() {
-        return Answer::Refused(Refusal {
-            number: Refusal::NO_PLAN,
+        return Err(Refusal {
+            fault: Fault::NoPlan,
             place: without,
         });
     }
-    let count = blocks::blocks(arrivals, deadlines, operations, rows);
-    Answer::Planned(count)
+    Ok(blocks::blocks(arrivals, deadlines, operations, rows))
 }
 
 // Rules 5 to 9, on offsets, and the rows.
@@ -47,34 +44,23 @@ pub fn settle(
 ) -> Answer
     requires sized { Sized arrivals.now deadlines.now operations.now rows.old }
     requires pace { Paced terms }
-    ensures settles { Settles (report_rules (list_of arrivals.now deadlines.now operations.now) (pace_of terms)) (list_of arrivals.now deadlines.now operations.now) terms rows.old result rows.new }
-    ensures proper { Proper result }
+    ensures { Settles (report_rules (list_of arrivals.now deadlines.now operations.now) (pace_of terms)) (list_of arrivals.now deadlines.now operations.now) terms rows.old result rows.new }
 {
-    let tried = forms::form_rules(Verdict::Silent, arrivals, deadlines, operations);
-    if let Verdict::Given(refusal) = tried {
-        return Answer::Refused(refusal);
-    }
+    forms::form_rules(arrivals, deadlines, operations)?;
     plan_fair(arrivals, deadlines, operations, terms, rows)
 }
 
 // Rules 5 to 9 of a list of readings: their offsets are taken once, and settled.
-pub fn settle_readings(
-    arrivals: &[u32],
-    deadlines: &[u32],
-    operations: &[u32],
-    terms: Roll,
-    rows: &mut [u32],
-) -> Answer
-    requires sized { Sized arrivals.now deadlines.now operations.now rows.old }
-    requires pace { Paced terms }
-    ensures settles { Settles (report_rules (offsets_of terms.reference arrivals.now deadlines.now operations.now) (pace_of terms)) (offsets_of terms.reference arrivals.now deadlines.now operations.now) terms rows.old result rows.new }
-    ensures proper { Proper result }
+pub fn settle_readings(list: ReportList<'_>, rows: &mut [u32]) -> Answer
+    requires sized { Sized list.arrivals.now list.deadlines.now list.operations.now rows.old }
+    requires pace { Paced list.terms }
+    ensures { Settles (report_rules (offsets_of list.entry.terms.reference list.entry.arrivals.now list.entry.deadlines.now list.entry.operations.now) (pace_of list.entry.terms)) (offsets_of list.entry.terms.reference list.entry.arrivals.now list.entry.deadlines.now list.entry.operations.now) list.entry.terms rows.old result rows.new }
 {
-    let n = arrivals.len();
-    let reference = terms.reference;
+    let n = list.arrivals.len();
+    let reference = list.terms.reference;
     let mut from = [0u32; Roll::REPORTS];
     let mut due = [0u32; Roll::REPORTS];
-    readings::offsets(arrivals, reference, &mut from);
-    readings::offsets(deadlines, reference, &mut due);
-    settle(&from[..n], &due[..n], operations, terms, rows)
+    readings::offsets(list.arrivals, reference, &mut from);
+    readings::offsets(list.deadlines, reference, &mut due);
+    settle(&from[..n], &due[..n], list.operations, list.terms, rows)
 }

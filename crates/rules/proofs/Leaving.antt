@@ -18,7 +18,8 @@ use Rattle.critical.specs.Reports.{Reports, list_of, Working}
 use Rattle.rules.specs.Rules.{lengths_rule, many_rule, short_rule, pace_rule, count_rules, operations_rule, arrival_rule, deadline_rule, form_rules}
 use Rattle.rules.specs.Leaves.{Even, Sized, Paced, Fair}
 use Rattle.rules.specs.declared.Roll.{Roll}
-use Rattle.rules.specs.declared.Floor.{Floor}
+use Rattle.std.specs.Prelude.{Option}
+use Rattle.fraction.specs.declared.Pace.{Pace}
 
 pub within_range : (low high x : ℕ) → (Outside low high x → ⊥) → (low ≤ x) × (x ≤ high)
 within_range low high x h = (cases x low (λ l. absurd (h (inl l))) (λ g. g), cases high x (λ l. absurd (h (inr l))) (λ g. g))
@@ -50,7 +51,7 @@ pub working : (ℓ : Reports) → Quiet (operations_rule ℓ) → Working ℓ
 working ℓ q i h = (within_range 1 65535 (ℓ.operations i) (unfaulted q i h)).0
 
 -- ---- rules 1 to 3, of three lists and a buffer
-module _ (xs ys ws before : List ℕ) (terms : Roll) (floor : Floor) (p : Passed (count_rules (length xs) (length ys) (length ws) terms floor (length before))) where
+module _ (xs ys ws before : List ℕ) (terms : Roll) (floor : Option Pace) (p : Passed (count_rules (length xs) (length ys) (length ws) terms floor (length before))) where
   pub sized_lists : Sized xs ys ws before
   sized_lists =
       let lengths : Quiet (lengths_rule (length xs) (length ys) (length ws)) = search finding depth 40 in

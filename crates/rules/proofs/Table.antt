@@ -4,8 +4,7 @@ use Prim.Native.Nat.{ℕ}
 use mathlib.Core.Path.{◌≡◌}
 use mathlib.Core.List.{List, ◌∷◌}
 use Rattle.trials.specs.Rules.{Rule}
-use Rattle.trials.specs.Tries.{After}
-use Rattle.trials.specs.declared.Verdict.{Verdict}
+use Rattle.trials.specs.Tries.{Verdict, After}
 use Rattle.trials.proofs.Passing.{Passed, Quiet, finding}
 use Rattle.trials.proofs.Single.{Single, Soles, one_after, singly}
 use Rattle.trials.proofs.Deciding.{Decides, deciding}
@@ -13,7 +12,8 @@ use Rattle.fraction.specs.Fraction.{Fraction}
 use Rattle.critical.specs.Reports.{Reports, Working}
 use Rattle.critical.proofs.Theorems.{one_place}
 use Rattle.rules.specs.declared.Roll.{Roll}
-use Rattle.rules.specs.declared.Floor.{Floor}
+use Rattle.std.specs.Prelude.{Option, Ok}
+use Rattle.fraction.specs.declared.Pace.{Pace}
 use Rattle.rules.specs.Offsets.{Input, reports_of}
 use Rattle.rules.specs.Rules.{count_rules, operations_rule, plan_rule, earlier_rules, plan_rules}
 use Rattle.rules.proofs.Leaving.{working}
@@ -29,9 +29,9 @@ single_rules x = search (singly, one_plan_rule) depth 40
 
 -- The promise of `count_rules` allows one verdict.
 pub one_count_verdict :
-    (so_far : Verdict) (arrivals deadlines operations : ℕ) (terms : Roll) (floor : Floor) (room : ℕ) (r s : Verdict) →
-    After so_far (count_rules arrivals deadlines operations terms floor room) r → After so_far (count_rules arrivals deadlines operations terms floor room) s → r ≡ s
-one_count_verdict so_far arrivals deadlines operations terms floor room r s = one_after so_far r s (search singly depth 40)
+    (arrivals deadlines operations : ℕ) (terms : Roll) (floor : Option Pace) (room : ℕ) (r s : Verdict) →
+    After (Ok tt) (count_rules arrivals deadlines operations terms floor room) r → After (Ok tt) (count_rules arrivals deadlines operations terms floor room) s → r ≡ s
+one_count_verdict arrivals deadlines operations terms floor room r s = one_after (Ok tt) r s (search singly depth 40)
 
 -- the rules before the last can be decided
 unfoldable pub decided : (x : Input) → Decides (earlier_rules x)

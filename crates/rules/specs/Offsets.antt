@@ -1,12 +1,11 @@
 -- What the planner is handed (01, "Words and numbers"): readings of the buoy's clock, and the list of offsets that they stand for.
 -- Assumes nothing.
-use Rattle.std.specs.Prelude.{ℕ, ◌+◌, ◌-◌, ◌%◌, ◌^◌, List, map}
-use Rattle.std.proofs.Math.Option.{Option, none, some}
+use Rattle.std.specs.Prelude.{ℕ, ◌+◌, ◌-◌, ◌%◌, ◌^◌, List, map, Option, None, Some}
 use Rattle.fraction.specs.Fraction.{Fraction, over}
 use Rattle.critical.specs.Reports.{Reports, list_of}
 use Rattle.rules.specs.declared.Roll.{Roll}
-use Rattle.rules.specs.declared.Floor.{Floor}
-use Rattle.rules.specs.declared.Floor.TheVariants.{Absent, Slowest}
+use Rattle.rules.specs.declared.ReportList.{ReportList}
+use Rattle.fraction.specs.declared.Pace.{Pace}
 
 -- A reading's offset is reading minus reference, taken modulo 2^32.
 abbrev pub offset : ℕ → ℕ → ℕ
@@ -21,9 +20,9 @@ abbrev pub pace_of : Roll → Fraction
 pace_of terms = over terms.p terms.q
 
 -- The slowest pace, R/T, where a floor gives one.
-abbrev pub slowest_in : Floor → Option Fraction
-slowest_in Absent = none
-slowest_in (Slowest r t) = some (over r t)
+abbrev pub slowest_in : Option Pace → Option Fraction
+slowest_in None = None
+slowest_in (Some pace) = Some (over pace.ticks pace.operations)
 
 -- The three lists, the terms that they come with (reference, P and Q), the floor that may be absent, and the row buffer as it is lent.
 pub record Input : Type 0 where
@@ -31,8 +30,19 @@ pub record Input : Type 0 where
   pub deadlines : List ℕ
   pub operations : List ℕ
   pub terms : Roll
-  pub floor : Floor
+  pub floor : Option Pace
   pub buffer : List ℕ
+
+-- The input that a list of reports is handed in with.
+abbrev pub input : ReportList → Option Pace → List ℕ → Input
+input list floor buffer = record {
+  arrivals = list.arrivals.now;
+  deadlines = list.deadlines.now;
+  operations = list.operations.now;
+  terms = list.terms;
+  floor = floor;
+  buffer = buffer;
+}
 
 -- Its reports.
 abbrev pub reports_of : Input → Reports

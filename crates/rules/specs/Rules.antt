@@ -1,14 +1,13 @@
 -- The refusals and their order (01's table, and 02's 16 and 17 for a floor). What a rule is, and that the first that is given refuses, is trials/specs/Rules.antt.
 -- Assumes nothing.
-use Rattle.std.specs.Prelude.{ℕ, ◌*◌, ◌<◌, ◌≡◌, List, [], ◌∷◌, ◌++◌, ◌⊎◌, length}
+use Rattle.std.specs.Prelude.{ℕ, ◌*◌, ◌<◌, ◌≡◌, List, [], ◌∷◌, ◌++◌, ◌⊎◌, length, Option, None, Some}
 use Rattle.answers.specs.Numbers.{width}
 use Rattle.trials.specs.Rules.{Rule, rule, Overall, Least, Outside, Falls}
 use Rattle.fraction.specs.Fraction.{Fraction, ◌≺◌, over}
 use Rattle.critical.specs.Reports.{Reports, FirstWithout}
 use Rattle.rules.specs.Offsets.{Input, pace_of, reports_of, fastest_of}
 use Rattle.rules.specs.declared.Roll.{Roll}
-use Rattle.rules.specs.declared.Floor.{Floor}
-use Rattle.rules.specs.declared.Floor.TheVariants.{Absent, Slowest}
+use Rattle.fraction.specs.declared.Pace.{Pace}
 
 -- ---- rules of the whole list: of how long the lists and the row buffer are, of the terms, and of the floor
 -- 1: the three lists differ in length.
@@ -32,20 +31,20 @@ abbrev pub pace_rule : Roll → Rule
 pace_rule terms = rule 4 (Overall (BadPace terms.p terms.q))
 
 -- Something is so of R and T: never where the floor is absent.
-unfoldable pub OfFloor : Floor → (ℕ → ℕ → Type 0) → Type 0
-OfFloor Absent P = ⊥
-OfFloor (Slowest r t) P = P r t
+unfoldable pub OfFloor : Option Pace → (ℕ → ℕ → Type 0) → Type 0
+OfFloor None P = ⊥
+OfFloor (Some pace) P = P pace.ticks pace.operations
 
 -- 16: R or T outside 1 to 65,535.
-abbrev pub floor_rule : Floor → Rule
+abbrev pub floor_rule : Option Pace → Rule
 floor_rule floor = rule 16 (Overall (OfFloor floor (λ r t. BadPace r t)))
 
 -- 17: R/T below P/Q.
-abbrev pub below_rule : Floor → Roll → Rule
+abbrev pub below_rule : Option Pace → Roll → Rule
 below_rule floor terms = rule 17 (Overall (OfFloor floor (λ r t. over r t ≺ pace_of terms)))
 
 -- In their order.
-abbrev pub count_rules : ℕ → ℕ → ℕ → Roll → Floor → ℕ → List Rule
+abbrev pub count_rules : ℕ → ℕ → ℕ → Roll → Option Pace → ℕ → List Rule
 count_rules arrivals deadlines operations terms floor room =
     lengths_rule arrivals deadlines operations
     ∷ many_rule arrivals

@@ -2,16 +2,16 @@
 // the types that they are about, with their limits, and the rules of the whole list tried in their order.
 #![tactic(auto)]
 
-ghost use Rattle.std.specs.Prelude.{◌≡◌, ◌⊎◌, ◌*◌, ◌<◌, max};
+ghost use Rattle.std.specs.Prelude.{◌≡◌, ◌⊎◌, ◌*◌, ◌<◌, max, Ok};
 ghost use Rattle.answers.specs.Numbers.{width};
 ghost use Rattle.trials.specs.Tries.{Tells, After};
 ghost use Rattle.fraction.specs.Fraction.{◌≺◌, over};
 ghost use Rattle.rules.specs.Offsets.{pace_of};
 ghost use Rattle.rules.specs.Rules.{BadPace, OfFloor, count_rules};
 
-use answers::{Refusal, Row};
+use answers::{Fault, Row};
 use fraction::Pace;
-use trials::{Verdict, or_if};
+use trials::{Verdict, refuse_if};
 
 // A report, by its offsets.
 #[derive(Clone, Copy)]
@@ -61,23 +61,20 @@ impl Roll {
     }
 }
 
-// The slowest pace, R/T, that a caller may give beside the terms (02, W2).
+// A list of reports, a number of each in each of three lists, with the terms that it comes with.
 #[derive(Clone, Copy)]
-pub enum Floor {
-    // There is none: a report may be drawn out as far as its room allows.
-    Absent,
-    // R and T.
-    Slowest(u32, u32),
+pub struct ReportList<'a> {
+    pub arrivals: &'a [u32],
+    pub deadlines: &'a [u32],
+    pub operations: &'a [u32],
+    pub terms: Roll,
 }
 
 // Whether three lists differ in length.
 pub fn uneven(arrivals: usize, deadlines: usize, operations: usize) -> bool
     ensures { Tells ((arrivals ≡ deadlines → ⊥) ⊎ (arrivals ≡ operations → ⊥)) result }
 {
-    if arrivals != deadlines {
-        return true;
-    }
-    arrivals != operations
+    arrivals != deadlines || arrivals != operations
 }
 
 // Whether a buffer is too short for the rows of so many reports.
@@ -91,74 +88,60 @@ fn short(reports: usize, room: usize) -> bool
 fn bad_pace(upper: u32, lower: u32) -> bool
     ensures { Tells (BadPace upper lower) result }
 {
-    if trials::outside(upper, 1, Roll::PACE) {
-        return true;
-    }
-    trials::outside(lower, 1, Roll::PACE)
+    trials::outside(upper, 1, Roll::PACE) || trials::outside(lower, 1, Roll::PACE)
 }
 
-// Whether there is a floor, and its R or T is such a number.
-fn bad_floor(floor: Floor) -> bool
+// Whether there is a floor, R/T, and its R or T is such a number.
+fn bad_floor(floor: Option<Pace>) -> bool
     ensures { Tells (OfFloor floor (λ x y. BadPace x y)) result }
 {
-    let Floor::Slowest(r, t) = floor else {
-        return false;
-    };
-    bad_pace(r, t)
+    match floor {
+        Some(slowest) => bad_pace(slowest.ticks, slowest.operations),
+        None => false,
+    }
 }
 
-// The lower number of a pace; 0 counts as 1, as in the definition (over). With a T or Q of 0 the paces
-// are compared all the same, and what comes of it has no effect: 16 or 4, tried before 17, is given.
-fn at_least_one(lower: u32) -> u32
-    ensures { result ≡ max 1 lower }
+// The pace of two numbers. A lower number of 0 counts as 1, as in the definition (over): with a T or Q of
+// 0 the paces are compared all the same, and what comes of it has no effect: 16 or 4, tried before 17, is
+// given.
+fn pace_over(upper: u32, lower: u32) -> Pace
+    ensures { result ≡ record { ticks = upper; operations = max 1 lower } }
 {
-    if lower == 0 {
-        return 1;
+    Pace {
+        ticks: upper,
+        operations: lower.max(1),
     }
-    lower
 }
 
 // Whether there is a floor, and it is below P/Q.
-fn floor_below(floor: Floor, terms: Roll) -> bool
+fn floor_below(floor: Option<Pace>, terms: Roll) -> bool
     ensures { Tells (OfFloor floor (λ x y. over x y ≺ pace_of terms)) result }
 {
-    let Floor::Slowest(r, t) = floor else {
-        return false;
-    };
-    let slowest = Pace {
-        ticks: r,
-        operations: at_least_one(t),
-    };
-    let fastest = Pace {
-        ticks: terms.p,
-        operations: at_least_one(terms.q),
-    };
-    slowest.below(fastest)
+    match floor {
+        Some(slowest) => {
+            let fastest = pace_over(terms.p, terms.q);
+            pace_over(slowest.ticks, slowest.operations).below(fastest)
+        }
+        None => false,
+    }
 }
 
-// Rules 1 to 4, 16 and 17, of how long the lists and the row buffer are, of the terms and of the floor:
-// it is handed the verdict of the rules before them, and gives that of all of them. Two lines a rule:
-// whether it is given, and or_if.
+// Rules 1 to 4, 16 and 17, of how long the lists and the row buffer are, of the terms and of the floor.
+// One line a rule: whether it is given, and what for.
 pub fn count_rules(
-    so_far: Verdict,
     arrivals: usize,
     deadlines: usize,
     operations: usize,
     terms: Roll,
-    floor: Floor,
+    floor: Option<Pace>,
     room: usize,
 ) -> Verdict
-    ensures { After so_far (count_rules arrivals deadlines operations terms floor room) result }
+    ensures { After (Ok tt) (count_rules arrivals deadlines operations terms floor room) result }
 {
-    let given = uneven(arrivals, deadlines, operations);
-    let v = or_if(so_far, given, Refusal::LENGTHS, 0);
-    let v = or_if(v, Roll::REPORTS < arrivals, Refusal::TOO_MANY, 0);
-    let given = short(arrivals, room);
-    let v = or_if(v, given, Refusal::SHORT_BUFFER, 0);
-    let given = bad_pace(terms.p, terms.q);
-    let v = or_if(v, given, Refusal::BAD_PACE, 0);
-    let given = bad_floor(floor);
-    let v = or_if(v, given, Refusal::BAD_FLOOR, 0);
-    let given = floor_below(floor, terms);
-    or_if(v, given, Refusal::FLOOR_BELOW, 0)
+    refuse_if(uneven(arrivals, deadlines, operations), Fault::Lengths)?;
+    refuse_if(Roll::REPORTS < arrivals, Fault::TooMany)?;
+    refuse_if(short(arrivals, room), Fault::ShortBuffer)?;
+    refuse_if(bad_pace(terms.p, terms.q), Fault::BadPace)?;
+    refuse_if(bad_floor(floor), Fault::BadFloor)?;
+    refuse_if(floor_below(floor, terms), Fault::FloorBelow)
 }

@@ -1,7 +1,7 @@
 -- Why 02 stops at the slowest pace: one report of 4 operations between 0 and 10, with the slowest pace 2. Its row's pace, 10/4, is slower and keeps the list; at threshold 3 it has a smaller sum than what runs.
 -- Assumes nothing.
 use mathlib.Core.List.{[], ◌∷◌}
-use mathlib.Core.Option.{some}
+use Rattle.std.specs.Prelude.{Some}
 use Rattle.fraction.specs.Fraction.{◌≺◌, whole, over, plus, times, later, sooner, less}
 use Rattle.critical.specs.Reports.{Reports, Paces, list_of, start, steady}
 use Rattle.critical.specs.Rows.{CriticalPlan}
@@ -24,6 +24,6 @@ pub lone_slower : whole 2 ≺ drawn_out 0
 unfolding whole over
 lone_slower = (test_≺ (whole 2) (drawn_out 0)).sound tt
 
-pub lone_below : sum_at lone (whole 3) drawn_out ≺ sum_at lone (whole 3) (floored (some (whole 2)) drawn_out)
+pub lone_below : sum_at lone (whole 3) drawn_out ≺ sum_at lone (whole 3) (floored (Some (whole 2)) drawn_out)
 unfolding whole over plus times total less sooner
-lone_below = (test_≺ (sum_at lone (whole 3) drawn_out) (sum_at lone (whole 3) (floored (some (whole 2)) drawn_out))).sound tt
+lone_below = (test_≺ (sum_at lone (whole 3) drawn_out) (sum_at lone (whole 3) (floored (Some (whole 2)) drawn_out))).sound tt

@@ -1,7 +1,7 @@
 -- A plan run with a slowest pace: it is allowed, and its sums up to the slowest pace are those of the plan itself.
 -- Assumes nothing.
 use Prim.Native.Nat.{ℕ}
-use mathlib.Core.Option.{Option}
+use Rattle.std.specs.Prelude.{Option}
 use native.Mathlib.Nat.{lt-suc_self}
 use Rattle.fraction.specs.Fraction.{Fraction, ◌≼◌, ◌≈◌, less}
 use Rattle.fraction.proofs.Order.{≼_trans}

@@ -2,7 +2,7 @@
 -- ours is the plan of the rows; floored slowest ours is what runs. No theorem asks that arrivals or deadlines are in any order. Nothing is assumed.
 use Prim.Native.Nat.{ℕ}
 use mathlib.Core.Logic.{◌↔◌}
-use mathlib.Core.Option.{Option, some}
+use Rattle.std.specs.Prelude.{Option, Some}
 use Rattle.fraction.specs.Fraction.{Fraction, ◌≼◌, ◌≺◌, whole}
 use Rattle.fraction.proofs.Order.{≼_trans, ≈_≼}
 use Rattle.critical.specs.Reports.{Reports, Paces, Positive, finish, Keeps, Allowed, Plannable}
@@ -59,7 +59,7 @@ runs_least_sum_above ℓ fastest slowest ours rival c crit keeps within =
 
 -- For slower rivals it need not be: here is a list, the plan of its rows and a slowest pace, and at a threshold above the slowest pace the sum of the rows' own paces, which are slower and keep the list, is smaller than that of what runs.
 pub slower_rival_below :
-    CriticalPlan lone (whole 1) drawn_out × (whole 2 ≺ drawn_out 0) × (sum_at lone (whole 3) drawn_out ≺ sum_at lone (whole 3) (floored (some (whole 2)) drawn_out))
+    CriticalPlan lone (whole 1) drawn_out × (whole 2 ≺ drawn_out 0) × (sum_at lone (whole 3) drawn_out ≺ sum_at lone (whole 3) (floored (Some (whole 2)) drawn_out))
 slower_rival_below = (lone_critical, lone_slower, lone_below)
 
 -- So no cost that falls in ever flatter straight pieces can be lowered by a plan that keeps the list and is no slower than the slowest pace.

@@ -1,5 +1,5 @@
-pub mod Passing
 pub mod Scanning
+pub mod Passing
 pub mod Trying
 pub mod Single
 pub mod Deciding

@@ -8,10 +8,12 @@ use mathlib.Core.Logic.{inl, inr}
 use native.Mathlib.Omega.{arith}
 use native.Mathlib.Decide.{dec_lt}
 use Rattle.trials.specs.Rules.{Rule, rule, Overall, Least, Refused, Accepted, Refuses}
-use Rattle.trials.specs.Tries.{Tells, FirstOr, OrIf, AfterIs, After}
+use Rattle.trials.specs.Tries.{Tells, FirstOf, Verdict, RefuseIf, RefuseAt, AfterIs, After}
+use Rattle.std.specs.Prelude.{Option, Some, None, Ok, Err}
+use Rattle.answers.specs.Numbers.{number}
+use Rattle.answers.specs.declared.Fault.{Fault}
 use Rattle.answers.specs.declared.Refusal.{Refusal}
-use Rattle.trials.specs.declared.Verdict.{Verdict}
-use Rattle.trials.specs.declared.Verdict.TheVariants.{Silent, Given}
+use Rattle.answers.proofs.Replies.{same_refusal}
 
 -- each rule of a list is given with one place only
 unfoldable pub Single : List Rule → Type 0
@@ -59,13 +61,12 @@ none_left = record { single = tt }
 pub ruleset singly = (one_overall, one_least, none_left)
 
 -- ---- one result for each function
--- The promise of `first_outside`, `first_above` and `first_fall` allows one place.
-pub one_first : (n : ℕ) (F : ℕ → Type 0) (r s : ℕ) → FirstOr n F r → FirstOr n F s → r ≡ s
-one_first n F r s a b =
-    elim (dec_lt r s) [
-      | yes h ↦ absurd (b.none_before r h (a.at_fault (omega (arith, b.within))))
-      | no h ↦ elim (dec_lt s r) [ yes l ↦ absurd (a.none_before s l (b.at_fault (omega (arith, a.within)))) | no l ↦ omega arith ]
-    ]
+-- The promise of `first_outside`, `first_above` and `first_fall` allows one place, or none.
+pub one_first : (n : ℕ) (F : ℕ → Type 0) (r s : Option ℕ) → FirstOf n F r → FirstOf n F s → r ≡ s
+one_first n F None None a b = refl
+one_first n F None (Some q) a b = absurd (a.none q b.found.on_list b.found.at_fault)
+one_first n F (Some p) None a b = absurd (b.none p a.found.on_list a.found.at_fault)
+one_first n F (Some p) (Some q) a b = ap Some (least_once n F p q a.found b.found)
 
 -- The promise of `outside` allows one answer.
 pub one_test : (P : Type 0) (a b : Bool) → Tells P a → Tells P b → a ≡ b
@@ -75,26 +76,22 @@ one_test P false true s t = absurd (s.no refl (t.yes refl))
 one_test P false false s t = refl
 
 -- one refusal
-refusal : ℕ → ℕ → Refusal
-refusal number place = record { number = number; place = place }
-
-pub same_refusal : {a b : Refusal} → a.number ≡ b.number → a.place ≡ b.place → a ≡ b
-unfolding refusal
-same_refusal {a} {b} e e' = ap (λ (k : ℕ). refusal k a.place) e ∙ ap (refusal b.number) e'
-
 pub one_refuses : {rules : List Rule} {a b : Refusal} → Soles rules → Refuses rules a → Refuses rules b → a ≡ b
 one_refuses {rules} {a} {b} s v w =
-    let e = one_refusal rules s.single a.number a.place b.number b.place v.refused w.refused in same_refusal e.0 e.1
+    let e = one_refusal rules s.single (number a.fault) a.place (number b.fault) b.place v.refused w.refused in same_refusal e.0 e.1
 
 -- The promise of a group of rules allows one verdict.
 pub one_after : {rules : List Rule} (v r s : Verdict) → Soles rules → After v rules r → After v rules s → r ≡ s
 unfolding AfterIs
-one_after (Given a) r s single p q = p.is ∙ sym q.is
-one_after Silent Silent Silent single p q = refl
-one_after {rules} Silent Silent (Given b) single p q = absurd (not_refused rules p.is b.number b.place q.is.refused)
-one_after {rules} Silent (Given a) Silent single p q = absurd (not_refused rules q.is a.number a.place p.is.refused)
-one_after Silent (Given a) (Given b) single p q = ap Given (one_refuses single p.is q.is)
+one_after (Err a) r s single p q = p.is ∙ sym q.is
+one_after (Ok _) (Ok _) (Ok _) single p q = refl
+one_after {rules} (Ok _) (Ok _) (Err b) single p q = absurd (not_refused rules p.is (number b.fault) b.place q.is.refused)
+one_after {rules} (Ok _) (Err a) (Ok _) single p q = absurd (not_refused rules q.is (number a.fault) a.place p.is.refused)
+one_after (Ok _) (Err a) (Err b) single p q = ap Err (one_refuses single p.is q.is)
 
--- The promise of `or_if` allows one verdict.
-pub one_verdict : (v : Verdict) (b : Bool) (number place : ℕ) (r s : Verdict) → OrIf v b number place r → OrIf v b number place s → r ≡ s
-one_verdict v b number place r s p q = p.is ∙ sym q.is
+-- The promises of `refuse_if` and `refuse_at` allow one verdict.
+pub one_verdict_if : (b : Bool) (f : Fault) (r s : Verdict) → RefuseIf b f r → RefuseIf b f s → r ≡ s
+one_verdict_if b f r s p q = p.is ∙ sym q.is
+
+pub one_verdict_at : (o : Option ℕ) (f : Fault) (r s : Verdict) → RefuseAt o f r → RefuseAt o f s → r ≡ s
+one_verdict_at o f r s p q = p.is ∙ sym q.is

@@ -1,18 +1,22 @@
 -- Rules tried one behind the other.
 -- Assumes nothing.
 use Prim.Native.Nat.{ℕ, ◌≤◌, ◌<◌}
-use mathlib.Core.Path.{◌≡◌, refl, sym, ◌∙◌, subst}
+use mathlib.Core.Path.{◌≡◌, refl, sym, ◌∙◌, ap, subst}
 use mathlib.Core.Bool.{Bool, true, false, not, true≢false}
 use mathlib.Core.List.{List, [], ◌∷◌, ◌++◌}
 use mathlib.Core.Logic.{◌⊎◌, inl, inr, ⊎_elim}
 use native.Mathlib.Omega.{arith}
 use lib.Dec.{ltb, eqb}
 use borrow.Author.Tests.{ltb-true, ltb-false, eqb-true, eqb-false, not-true, not-false}
+use Rattle.std.specs.Prelude.{Option, Some, None, Result, Ok, Err, IsErr, IsErrAnd}
+use Rattle.std.specs.Result.{result_from_control_flow}
+use Rattle.std.proofs.Common.{Continue, Break}
+use Rattle.std.proofs.lemmas.Result.{err_from_is_err_and}
+use Rattle.answers.specs.Numbers.{number}
+use Rattle.answers.specs.declared.Fault.{Fault}
 use Rattle.answers.specs.declared.Refusal.{Refusal}
-use Rattle.trials.specs.Rules.{Rule, rule, Overall, Least, Silent as SilentRule, Refused, Accepted, Refuses}
-use Rattle.trials.specs.Tries.{Tells, FirstOr, or_if, OrIf, AfterIs, After}
-use Rattle.trials.specs.declared.Verdict.{Verdict}
-use Rattle.trials.specs.declared.Verdict.TheVariants.{Silent, Given}
+use Rattle.trials.specs.Rules.{Rule, rule, Overall, Least, Refused, Accepted, Refuses}
+use Rattle.trials.specs.Tries.{Tells, FirstOf, Verdict, refuse_if, RefuseIf, refuse_at, RefuseAt, AfterIs, After}
 use Rattle.trials.proofs.Passing.{Passed, both}
 
 -- ---- lists of rules, one behind the other
@@ -26,19 +30,26 @@ unfolding Refused Accepted
 refused_later [] qs number place a r = r
 refused_later (p ∷ ps) qs number place a r = inr (a.0, refused_later ps qs number place a.1 r)
 
+-- a refusal is handed on: the rules behind it are not tried
+stop_is : (qs : List Rule) (v : Verdict) (a : Refusal) → v ≡ Err a → AfterIs v qs (Err a)
+unfolding AfterIs
+stop_is qs v a e = subst (λ (x : Verdict). AfterIs x qs (Err a)) (sym e) refl
+
+pub after_stop : {v : Verdict} {qs : List Rule} {a : Refusal} → v ≡ Err a → After v qs (Err a)
+after_stop {v} {qs} {a} e = record { is = stop_is qs v a e }
+
 append_is : (ps qs : List Rule) (v w r : Verdict) → AfterIs v ps w → AfterIs w qs r → AfterIs v (ps ++ qs) r
 unfolding AfterIs
-append_is ps qs (Given a) w r p q = subst (λ (x : Verdict). AfterIs x qs r) p q
-append_is ps qs Silent (Given b) r p q =
-    subst (λ (x : Verdict). AfterIs Silent (ps ++ qs) x) (sym q)
-    (record { refused = refused_first ps qs b.number b.place p.refused; numbered = p.numbered })
-append_is ps qs Silent Silent Silent p q = (both ps qs (record { accepted = p }) (record { accepted = q })).accepted
-append_is ps qs Silent Silent (Given a) p q = record { refused = refused_later ps qs a.number a.place p q.refused; numbered = q.numbered }
+append_is ps qs (Err a) w r p q = subst (λ (x : Verdict). AfterIs x qs r) p q
+append_is ps qs (Ok _) (Err b) r p q =
+    subst (λ (x : Verdict). AfterIs (Ok tt) (ps ++ qs) x) (sym q) (record { refused = refused_first ps qs (number b.fault) b.place p.refused })
+append_is ps qs (Ok _) (Ok _) (Ok _) p q = (both ps qs (record { accepted = p }) (record { accepted = q })).accepted
+append_is ps qs (Ok _) (Ok _) (Err a) p q = record { refused = refused_later ps qs (number a.fault) a.place p q.refused }
 
 none_is : (v : Verdict) → AfterIs v [] v
 unfolding AfterIs Accepted
-none_is (Given a) = refl
-none_is Silent = tt
+none_is (Err a) = refl
+none_is (Ok _) = tt
 
 pub after_none : {v : Verdict} → After v [] v
 after_none {v} = record { is = none_is v }
@@ -46,34 +57,46 @@ after_none {v} = record { is = none_is v }
 pub after_append : (ps qs : List Rule) {v w r : Verdict} → After v ps w → After w qs r → After v (ps ++ qs) r
 after_append ps qs {v} {w} {r} a b = record { is = append_is ps qs v w r a.is b.is }
 
+-- ---- what a `?` does
+-- it hands a refusal on
+pub handed_on : {v r : Verdict} {b : _} {e : _} {qs : List Rule} → v ≡ result_from_control_flow b → b ≡ Break e → IsErr r × IsErrAnd r (λ a. a ≡ e.0) → After v qs r
+handed_on {v} {r} {b} {e} {qs} f g h =
+    let p = err_from_is_err_and r h.1 in
+    let k : r ≡ Err e.0 = p.1 ∙ ap Err p.2 in
+    subst (λ (x : Verdict). After v qs x) (sym k) (after_stop (f ∙ ap result_from_control_flow g))
+
+-- and goes on behind a silence
+pub go_on : {v r : Verdict} {b : _} {u : Unit {0}} {qs : List Rule} → v ≡ result_from_control_flow b → b ≡ Continue u → After (Ok tt) qs r → After v qs r
+go_on {v} {r} {b} {u} {qs} f g a = subst (λ (x : Verdict). After x qs r) (sym (f ∙ ap result_from_control_flow g)) a
+
 -- ---- one rule, and those behind it
 -- the verdict of a test that decides the rule
-one_is : (q : Rule) (v r : Verdict) (b : Bool) (place : ℕ) → r ≡ or_if v b q.number place → (b ≡ true → q.given place) → (b ≡ false → SilentRule q) → 0 < q.number → AfterIs v (q ∷ []) r
+if_is : (f : Fault) (P : Type 0) (r : Verdict) (b : Bool) → r ≡ refuse_if b f → Tells P b → AfterIs (Ok tt) (rule (number f) (Overall P) ∷ []) r
 unfolding AfterIs Accepted Refused
-one_is q (Given x) r b place e on off some = e
-one_is q Silent r true place e on off some = subst (λ (x : Verdict). AfterIs Silent (q ∷ []) x) (sym e) (record { refused = inl (refl, on refl); numbered = some })
-one_is q Silent r false place e on off some = subst (λ (x : Verdict). AfterIs Silent (q ∷ []) x) (sym e) (off refl, tt)
+if_is f P r true e t = subst (λ (x : Verdict). AfterIs (Ok tt) (rule (number f) (Overall P) ∷ []) x) (sym e) (record { refused = inl (refl, (t.yes refl, refl)) })
+if_is f P r false e t = subst (λ (x : Verdict). AfterIs (Ok tt) (rule (number f) (Overall P) ∷ []) x) (sym e) ((λ place g. t.no refl g.0), tt)
+
+-- and of a search that finds its place
+at_is : (f : Fault) (n : ℕ) (F : ℕ → Type 0) (r : Verdict) (o : Option ℕ) → r ≡ refuse_at o f → FirstOf n F o → AfterIs (Ok tt) (rule (number f) (Least n F) ∷ []) r
+unfolding AfterIs Accepted Refused
+at_is f n F r (Some place) e s = subst (λ (x : Verdict). AfterIs (Ok tt) (rule (number f) (Least n F) ∷ []) x) (sym e) (record { refused = inl (refl, s.found) })
+at_is f n F r None e s = subst (λ (x : Verdict). AfterIs (Ok tt) (rule (number f) (Least n F) ∷ []) x) (sym e) ((λ place g. s.none place g.on_list g.at_fault), tt)
 
 -- a rule of the whole list, by a test
-pub overall_cons : {number : ℕ} {P : Type 0} {qs : List Rule} {v w r : Verdict} {b : Bool} → OrIf v b number 0 w → Tells P b → ltb 0 number ≡ true → After w qs r → After v (rule number (Overall P) ∷ qs) r
-overall_cons {number} {P} {qs} {v} {w} {r} {b} o t some rest =
-    after_append (rule number (Overall P) ∷ []) qs
-    (record { is = one_is (rule number (Overall P)) v w b 0 o.is (λ e. (t.yes e, refl)) (λ e place g. t.no e g.0) (ltb-true 0 number some) }) rest
+pub overall_cons : {k : ℕ} {f : Fault} {P : Type 0} {qs : List Rule} {w r : Verdict} {b : Bool} → RefuseIf b f w → Tells P b → eqb (number f) k ≡ true → After w qs r → After (Ok tt) (rule k (Overall P) ∷ qs) r
+overall_cons {k} {f} {P} {qs} {w} {r} {b} o t e rest =
+    subst (λ (x : ℕ). After (Ok tt) (rule x (Overall P) ∷ qs) r) (eqb-true (number f) k e)
+    (after_append (rule (number f) (Overall P) ∷ []) qs (record { is = if_is f P w b o.is t }) rest)
 
 -- a rule of a report, by the search for its fault
-pub least_cons : {number n at : ℕ} {Fault : ℕ → Type 0} {qs : List Rule} {v w r : Verdict} → OrIf v (ltb at n) number at w → FirstOr n Fault at → ltb 0 number ≡ true → After w qs r → After v (rule number (Least n Fault) ∷ qs) r
-least_cons {number} {n} {at} {Fault} {qs} {v} {w} {r} o f some rest =
-    after_append (rule number (Least n Fault) ∷ []) qs
-    (record {
-      is = one_is (rule number (Least n Fault)) v w (ltb at n) at o.is
-          (λ e. let h : at < n = ltb-true at n e in record { on_list = h; at_fault = f.at_fault h; least = f.none_before })
-          (λ e place g. let h : n ≤ at = ltb-false at n e in f.none_before place (omega (arith, h, g.on_list)) g.at_fault)
-          (ltb-true 0 number some);
-    }) rest
+pub least_cons : {k n : ℕ} {f : Fault} {F : ℕ → Type 0} {qs : List Rule} {w r : Verdict} {o : Option ℕ} → RefuseAt o f w → FirstOf n F o → eqb (number f) k ≡ true → After w qs r → After (Ok tt) (rule k (Least n F) ∷ qs) r
+least_cons {k} {n} {f} {F} {qs} {w} {r} {o} s t e rest =
+    subst (λ (x : ℕ). After (Ok tt) (rule x (Least n F) ∷ qs) r) (eqb-true (number f) k e)
+    (after_append (rule (number f) (Least n F) ∷ []) qs (record { is = at_is f n F w o s.is t }) rest)
 
 -- a search in a list that is as long
-pub first_long : {m n r : ℕ} {F : ℕ → Type 0} → FirstOr m F r → m ≡ n → FirstOr n F r
-first_long {m} {n} {r} {F} f e = subst (λ (k : ℕ). FirstOr k F r) e f
+pub first_long : {m n : ℕ} {r : Option ℕ} {F : ℕ → Type 0} → FirstOf m F r → m ≡ n → FirstOf n F r
+first_long {m} {n} {r} {F} f e = subst (λ (k : ℕ). FirstOf k F r) e f
 
 -- ---- tests
 pub tells_below : {a b : ℕ} → Tells (a < b) (ltb a b)
@@ -108,28 +131,25 @@ pub tells_second : {P Q : Type 0} {b : Bool} → (P → ⊥) → Tells Q b → T
 tells_second n t = record { yes = λ e. inr (t.yes e); no = λ e o. ⊎_elim n (t.no e) o }
 
 -- what search is handed for rules tried in their order
-pub ruleset trying = (overall_cons, least_cons, first_long, after_none, tells_below, tells_equal, tells_different)
+pub ruleset trying = (overall_cons, least_cons, first_long, after_none, handed_on, go_on, tells_below, tells_equal, tells_different)
 
 -- ---- the verdict, taken apart
-silent_is : (rules : List Rule) (v : Verdict) → v ≡ Silent → AfterIs Silent rules v → Accepted rules
+silent_is : (rules : List Rule) (v : Verdict) → v ≡ Ok tt → AfterIs (Ok tt) rules v → Accepted rules
 unfolding AfterIs
-silent_is rules v e a = subst (λ (x : Verdict). AfterIs Silent rules x) e a
+silent_is rules v e a = subst (λ (x : Verdict). AfterIs (Ok tt) rules x) e a
 
-given_is : (rules : List Rule) (v : Verdict) (a : Refusal) → v ≡ Given a → AfterIs Silent rules v → Refuses rules a
+given_is : (rules : List Rule) (v : Verdict) (a : Refusal) → v ≡ Err a → AfterIs (Ok tt) rules v → Refuses rules a
 unfolding AfterIs
-given_is rules v a e x = subst (λ (y : Verdict). AfterIs Silent rules y) e x
+given_is rules v a e x = subst (λ (y : Verdict). AfterIs (Ok tt) rules y) e x
 
 -- a silence: none of the rules is given
-pub passed : {rules : List Rule} {v : Verdict} → After Silent rules v → v ≡ Silent → Passed rules
+pub passed : {rules : List Rule} {v : Verdict} → After (Ok tt) rules v → v ≡ Ok tt → Passed rules
 passed {rules} {v} a e = record { accepted = silent_is rules v e a.is }
 
 -- a refusal: the first rule that is given
-pub refuses : {rules : List Rule} {v : Verdict} {a : Refusal} → After Silent rules v → v ≡ Given a → Refuses rules a
+pub refuses : {rules : List Rule} {v : Verdict} {a : Refusal} → After (Ok tt) rules v → v ≡ Err a → Refuses rules a
 refuses {rules} {v} {a} x e = given_is rules v a e x.is
 
--- a test that holds, behind a silence
-pub or_given : (v : Verdict) (b : Bool) (number place : ℕ) → v ≡ Silent → b ≡ true → Given (record { number = number; place = place }) ≡ or_if v b number place
-or_given v b number place e t =
-    sym
-    (subst (λ (x : Verdict). or_if x b number place ≡ Given (record { number = number; place = place })) (sym e)
-    (subst (λ (x : Bool). or_if Silent x number place ≡ Given (record { number = number; place = place })) (sym t) refl))
+-- and the same where a `?` hands it on, as the refusal of another function
+pub refuses_on : {X : Type 0} {rules : List Rule} {v : Verdict} {a : Refusal} {r : Result X Refusal} → After (Ok tt) rules v → v ≡ Err a → IsErr r × IsErrAnd r (λ e. e ≡ a) → Refuses rules a × (r ≡ Err a)
+refuses_on {r = r} x e h = let p = err_from_is_err_and r h.1 in (refuses x e, p.1 ∙ ap Err p.2)

@@ -1,6 +1,7 @@
 -- Rules, tried in their order: what a rule is, and which refusal a list of rules gives.
 -- Assumes nothing.
 use Rattle.std.specs.Prelude.{ℕ, zero, suc, ◌<◌, ◌≡◌, List, [], ◌∷◌, ◌⊎◌}
+use Rattle.answers.specs.Numbers.{number}
 use Rattle.answers.specs.declared.Refusal.{Refusal}
 
 -- A rule: its number, and the place with which it is given (it is given exactly when there is one).
@@ -41,8 +42,7 @@ Refused (r ∷ rs) number place = ((number ≡ r.number) × r.given place) ⊎ (
 
 -- The refusal is the one that the rules give.
 pub record Refuses (rules : List Rule) (refusal : Refusal) : Type 0 where
-  pub refused : Refused rules refusal.number refusal.place
-  pub numbered : 0 < refusal.number
+  pub refused : Refused rules (number refusal.fault) refusal.place
 
 -- None is given.
 unfoldable pub Accepted : List Rule → Type 0

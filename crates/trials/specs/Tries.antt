@@ -1,35 +1,45 @@
 -- What functions that try rules tell each other: tests, searches for a fault, and the verdict of rules one behind the other.
 -- Assumes nothing.
-use Rattle.std.specs.Prelude.{ℕ, ◌≤◌, ◌<◌, ◌≡◌, Bool, true, false, List}
-use Rattle.trials.specs.Rules.{Rule, Accepted, Refuses}
-use Rattle.trials.specs.declared.Verdict.{Verdict}
-use Rattle.trials.specs.declared.Verdict.TheVariants.{Silent, Given}
+use Rattle.std.specs.Prelude.{ℕ, ◌<◌, ◌≡◌, Bool, true, false, List, Option, Some, None, IfSome, IfNone, Result, Ok, Err}
+use Rattle.answers.specs.declared.Fault.{Fault}
+use Rattle.answers.specs.declared.Refusal.{Refusal}
+use Rattle.trials.specs.Rules.{Rule, Least, Accepted, Refuses}
 
 -- A test tells whether something is so.
 pub record Tells (P : Type 0) (b : Bool) : Type 0 where
   pub yes : b ≡ true → P
   pub no : b ≡ false → P → ⊥
 
--- What a search for the least fault gives: the place, or n where nothing is at fault.
-pub record FirstOr (n : ℕ) (Fault : ℕ → Type 0) (r : ℕ) : Type 0 where
-  pub within : r ≤ n
-  pub at_fault : r < n → Fault r
-  pub none_before : (i : ℕ) → i < r → Fault i → ⊥
+-- What a search for the least fault gives: its place, or none where nothing is at fault.
+pub record FirstOf (n : ℕ) (Fault : ℕ → Type 0) (r : Option ℕ) : Type 0 where
+  pub found : IfSome r (λ place. Least n Fault place)
+  pub none : IfNone r ((i : ℕ) → i < n → Fault i → ⊥)
 
--- The verdict so far; where that is silent and a test holds, the refusal with this number and place.
-abbrev pub or_if : Verdict → Bool → ℕ → ℕ → Verdict
-or_if (Given refusal) given number place = Given refusal
-or_if Silent true number place = Given (record { number = number; place = place })
-or_if Silent false number place = Silent
+-- What rules give: nothing, or a refusal.
+abbrev pub Verdict : Type 0
+Verdict = Result (Unit {0}) Refusal
 
-pub record OrIf (so_far : Verdict) (given : Bool) (number place : ℕ) (r : Verdict) : Type 0 where
-  pub is : r ≡ or_if so_far given number place
+-- The verdict of one test: where it holds, the refusal for this, with place 0.
+abbrev pub refuse_if : Bool → Fault → Verdict
+refuse_if true fault = Err (record { fault = fault; place = 0 })
+refuse_if false fault = Ok tt
+
+pub record RefuseIf (given : Bool) (fault : Fault) (r : Verdict) : Type 0 where
+  pub is : r ≡ refuse_if given fault
+
+-- The verdict of one search: where there is a place, the refusal for this, with that place.
+abbrev pub refuse_at : Option ℕ → Fault → Verdict
+refuse_at (Some place) fault = Err (record { fault = fault; place = place })
+refuse_at None fault = Ok tt
+
+pub record RefuseAt (found : Option ℕ) (fault : Fault) (r : Verdict) : Type 0 where
+  pub is : r ≡ refuse_at found fault
 
 -- Behind a refusal nothing is tried; behind a silence the rules are.
 unfoldable pub AfterIs : Verdict → List Rule → Verdict → Type 0
-AfterIs (Given refusal) rules r = r ≡ Given refusal
-AfterIs Silent rules Silent = Accepted rules
-AfterIs Silent rules (Given refusal) = Refuses rules refusal
+AfterIs (Err refusal) rules r = r ≡ Err refusal
+AfterIs (Ok _) rules (Ok _) = Accepted rules
+AfterIs (Ok _) rules (Err refusal) = Refuses rules refusal
 
 pub record After (so_far : Verdict) (rules : List Rule) (r : Verdict) : Type 0 where
   pub is : AfterIs so_far rules r

@@ -1,83 +1,67 @@
-// Rules tried one behind the other: the verdict of the rules so far is handed on, and the first rule
-// that is given refuses. What a rule is, and which refusal a list of rules gives, is specs/Rules.antt;
-// a group of rules promises After (specs/Tries.antt), and proofs/Trying.antt puts groups one behind
-// the other. Here too are the searches for a fault that rules are decided by.
+// Rules tried one behind the other: the first that is given refuses, and `?` hands its refusal on. What
+// a rule is, and which refusal a list of rules gives, is specs/Rules.antt; a group of rules promises
+// After (specs/Tries.antt), and proofs/Trying.antt puts groups one behind the other. Here too are the
+// searches for a fault that rules are decided by.
 #![tactic(auto)]
 
-ghost use Rattle.std.specs.Prelude.{true, ◌<◌, length, get_or};
+ghost use Rattle.std.specs.Prelude.{◌<◌, length, get_or};
 ghost use Rattle.trials.specs.Rules.{Outside, Falls};
-ghost use Rattle.trials.specs.Tries.{Tells, FirstOr, OrIf};
+ghost use Rattle.trials.specs.Tries.{Tells, FirstOf, RefuseIf, RefuseAt};
 
-use answers::Refusal;
+use answers::{Fault, Refusal};
 
-// What the rules tried so far give: nothing, or a refusal.
-#[derive(Clone, Copy)]
-pub enum Verdict {
-    Silent,
-    Given(Refusal),
+// What rules give: nothing, or a refusal.
+pub type Verdict = Result<(), Refusal>;
+
+// A rule of the whole list, by a test: where it holds, a refusal, with place 0.
+pub fn refuse_if(given: bool, fault: Fault) -> Verdict
+    ensures { RefuseIf given fault result }
+{
+    if given {
+        return Err(Refusal { fault, place: 0 });
+    }
+    Ok(())
 }
 
-// The verdict so far; where that is silent and a test holds, a refusal.
-pub fn or_if(so_far: Verdict, given: bool, number: u32, place: usize) -> Verdict
-    ensures { OrIf so_far given number place result }
+// A rule of a report, by the search for its fault: where there is a place, a refusal with that place.
+pub fn refuse_at(found: Option<usize>, fault: Fault) -> Verdict
+    ensures { RefuseAt found fault result }
 {
-    let Verdict::Silent = so_far else {
-        return so_far;
-    };
-    if given {
-        return Verdict::Given(Refusal { number, place });
+    match found {
+        Some(place) => Err(Refusal { fault, place }),
+        None => Ok(()),
     }
-    Verdict::Silent
 }
 
 // Whether a number is outside least to most.
 pub fn outside(x: u32, least: u32, most: u32) -> bool
     ensures { Tells (Outside least most x) result }
 {
-    if x < least {
-        return true;
-    }
-    most < x
+    x < least || most < x
 }
 
-// The least i at which xs is outside least to most, or the list's length.
-pub fn first_outside(xs: &[u32], least: u32, most: u32) -> usize
-    ensures { FirstOr (length xs.now) (λ i. Outside least most (get_or xs.now i 0)) result }
+// The least i at which xs is outside least to most.
+pub fn first_outside(xs: &[u32], least: u32, most: u32) -> Option<usize>
+    ensures { FirstOf (length xs.now) (λ i. Outside least most (get_or xs.now i 0)) result }
 {
-    let mut i = 0;
-    while i < xs.len() {
-        if outside(xs[i], least, most) {
-            return i;
-        }
-        i += 1;
-    }
-    xs.len()
+    xs.iter().position(|x| outside(*x, least, most))
 }
 
-// The least i at which xs is above most, or the list's length.
-pub fn first_above(xs: &[u32], most: u32) -> usize
-    ensures { FirstOr (length xs.now) (λ i. most < get_or xs.now i 0) result }
+// The least i at which xs is above most.
+pub fn first_above(xs: &[u32], most: u32) -> Option<usize>
+    ensures { FirstOf (length xs.now) (λ i. most < get_or xs.now i 0) result }
 {
-    let mut i = 0;
-    while i < xs.len() {
-        if most < xs[i] {
-            return i;
-        }
-        i += 1;
-    }
-    xs.len()
+    xs.iter().position(|x| most < *x)
 }
 
-// The least i at which xs is below the number before, or the list's length.
-pub fn first_fall(xs: &[u32]) -> usize
-    ensures { FirstOr (length xs.now) (Falls (λ i. get_or xs.now i 0)) result }
+// The least i at which xs is below the number before.
+pub fn first_fall(xs: &[u32]) -> Option<usize>
+    ensures { FirstOf (length xs.now) (Falls (λ i. get_or xs.now i 0)) result }
 {
-    let mut i = 1;
-    while i < xs.len() {
+    for i in 1..xs.len() {
         if xs[i] < xs[i - 1] {
-            return i;
+            return Some(i);
         }
-        i += 1;
     }
-    xs.len()
+    None
 }

@@ -2,8 +2,8 @@
 use Rattle.rules.proofs.Floors.{tells_absent, tells_floor}
 use Rattle.rules.proofs.bad_floor.Goals as goal
 
-pub returns-in_default : goal.returns-in_default
-returns-in_default c = tells_absent _ c.in_default.is
+pub returns-in-Some : goal.returns-in-Some
+returns-in-Some c = rw c.in-Some.is (tells_floor _ c.bad_pace.ensures)
 
-pub returns : goal.returns
-returns c = tells_floor _ _ _ c.in-Slowest.is c.bad_pace.ensures
+pub returns-in-None : goal.returns-in-None
+returns-in-None c = rw c.in-None.is (tells_absent _)

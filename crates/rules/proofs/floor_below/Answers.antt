@@ -2,8 +2,8 @@
 use Rattle.rules.proofs.Floors.{tells_absent, tells_floor, tells_slower}
 use Rattle.rules.proofs.floor_below.Goals as goal
 
-pub returns-in_default : goal.returns-in_default
-returns-in_default c = tells_absent _ c.in_default.is
+pub returns-in-Some : goal.returns-in-Some
+returns-in-Some c = rw c.in-Some.is (tells_floor _ (tells_slower _ _ _ _ c.pace_over.ensures c.pace_over-fastest.ensures c.below.ensures))
 
-pub returns : goal.returns
-returns c = tells_floor _ _ _ c.in-Slowest.is (tells_slower _ _ _ _ _ _ c.at_least_one.ensures c.at_least_one-2.ensures c.below.ensures)
+pub returns-in-None : goal.returns-in-None
+returns-in-None c = rw c.in-None.is (tells_absent _)
