@@ -2,17 +2,20 @@
 -- Assumes nothing.
 use Prim.Native.Nat.{ℕ, ◌+◌, ◌*◌, ◌≤◌, ◌<◌}
 use mathlib.Core.Path.{◌≡◌, refl, ap, subst, subst₂}
-use mathlib.Core.Bool.{true}
-use mathlib.Core.List.{List}
-use mathlib.Core.Logic.{inl, inr}
+use mathlib.Core.Bool.{Bool, true}
+use mathlib.Core.List.{List, [], ◌∷◌}
 use native.Mathlib.Omega.{arith}
 use native.Mathlib.Decide.{ℕ_discrete}
 use lib.ListN.{length}
 use denote.Ref.{Bor}
+use Rattle.answers.specs.Numbers.{number}
+use Rattle.answers.specs.declared.Fault.TheVariants.{ShortRoll}
 use Rattle.answers.specs.declared.Refusal.{Refusal}
 use Rattle.std.specs.Prelude.{Ok, Err}
-use Rattle.trials.specs.Rules.{Refused, Accepted, Refuses}
-use Rattle.trials.proofs.Passing.{Passed, Quiet, finding, untrue, more}
+use Rattle.trials.specs.Rules.{Accepted, Refuses}
+use Rattle.trials.specs.Tries.{Tells, Verdict, RefuseIf, After}
+use Rattle.trials.proofs.Passing.{Passed, Quiet, finding, heads, both, untrue}
+use Rattle.trials.proofs.Trying.{refused_first, refused_later, overall_cons, after_none, passed, refuses}
 use Rattle.trials.proofs.Single.{not_refused}
 use Rattle.fraction.proofs.Scale.{cases}
 use Rattle.roll.specs.Format.{mark, ends_in, has_floor, trailer_long, back_of, count_of, records_at, records_long, short_rule, back_rule, far_rule, trailer_rules, file_rules}
@@ -45,19 +48,26 @@ long_with_floor s a e = omega (arith, (file_is s (record { accepted = a })).long
 pub plain_file : (s : List ℕ) → ends_in s mark ≡ true → Passed (file_rules s) → FileIs s 16
 plain_file s m p = subst (FileIs s) (without_floor s (plain_mark s m)).0 (file_is s p)
 
--- ---- the file rules, by those of the trailer
-module _ (s : List ℕ) where
-  pub too_short : length s < trailer_long s → Refuses (file_rules s) (record { number = 10; place = 0 })
-  unfolding Refused
-  too_short h = record { refused = inl (refl, (h, refl)); numbered = omega arith }
+-- ---- the file rules, tried in two parts: the first of them, and those of the trailer
+module _ (s : List ℕ) {v : Verdict} where
+  pub first_tried : {b : Bool} → RefuseIf b ShortRoll v → Tells (length s < trailer_long s) b → After (Ok tt) (short_rule s ∷ []) v
+  first_tried o t = overall_cons o t refl after_none
 
-  module _ (long : length s < trailer_long s → ⊥) where
-    pub refused_trailer : {a : Refusal} → Refuses (trailer_rules s) a → Refuses (file_rules s) a
-    unfolding Refused
-    refused_trailer r = record { refused = inr (λ place g. long g.0, r.refused); numbered = r.numbered }
+  -- the roll is too short
+  pub too_short : {a : Refusal} → After (Ok tt) (short_rule s ∷ []) v → v ≡ Err a → Refuses (file_rules s) a
+  too_short {a} t e = record { refused = refused_first (short_rule s ∷ []) (trailer_rules s) (number a.fault) a.place (refuses t e).refused }
 
-    pub passed_trailer : Passed (trailer_rules s) → Passed (file_rules s)
-    passed_trailer p = let short : Quiet (short_rule s) = record { silent = λ place g. long g.0 } in more short p
+  -- it is not
+  pub long_enough : After (Ok tt) (short_rule s ∷ []) v → v ≡ Ok tt → length s < trailer_long s → ⊥
+  long_enough t e = untrue (heads (passed t e))
+
+  -- then the rules of the trailer decide
+  module _ {w : Verdict} (t : After (Ok tt) (short_rule s ∷ []) v) (e : v ≡ Ok tt) (u : After (Ok tt) (trailer_rules s) w) where
+    pub refused_trailer : {a : Refusal} → w ≡ Err a → Refuses (file_rules s) a
+    refused_trailer {a} f = record { refused = refused_later (short_rule s ∷ []) (trailer_rules s) (number a.fault) a.place (passed t e).accepted (refuses u f).refused }
+
+    pub passed_trailer : w ≡ Ok tt → Accepted (file_rules s)
+    passed_trailer f = (both (short_rule s ∷ []) (trailer_rules s) (passed t e) (passed u f)).accepted
 
 -- ---- the trailer's answer
 pub trailer_there : {s : List ℕ} {e : Ending} → Accepted (file_rules s) → EndingIs s e → TrailerAnswerIs s (Ok e)
@@ -87,6 +97,6 @@ cut_part {s} {part} at size a p q r = record {
 -- on a refusal there is none
 pub refused_part : {s part : Bor (List ℕ)} {a : Refusal} → Refuses (file_rules s.now) a → PartFrom s 0 0 part → PartIs s part
 refused_part {s} {a = a} r p = record {
-  accepted = λ q. absurd (not_refused (file_rules s.now) q a.number a.place r.refused);
+  accepted = λ q. absurd (not_refused (file_rules s.now) q (number a.fault) a.place r.refused);
   refused = λ _ _ _. p;
 }

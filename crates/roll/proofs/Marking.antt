@@ -17,7 +17,7 @@ use Rattle.trials.specs.Tries.{Tells}
 use Rattle.trials.proofs.Trying.{tells_yes}
 use Rattle.trials.proofs.Deciding.{Decidable}
 use Rattle.fraction.proofs.Scale.{cases}
-use Rattle.rules.specs.declared.Floor.TheVariants.{Absent, Slowest}
+use Rattle.std.specs.Prelude.{None, Some}
 use Rattle.roll.specs.Format.{r_of, t_of, mark, ends_in, has_floor, trailer_long, floor_of, Marked}
 
 -- ---- the last two bytes, compared with a mark
@@ -77,13 +77,13 @@ same_ends s t m e e' = ap₂ (λ (a b : ℕ). eqb a (get_or m 0 0) && eqb b (get
 
 -- ---- what they decide
 module _ (s : List ℕ) where
-  pub with_floor : has_floor s ≡ true → (trailer_long s ≡ 20) × (floor_of s ≡ Slowest (r_of s) (t_of s))
+  pub with_floor : has_floor s ≡ true → (trailer_long s ≡ 20) × (floor_of s ≡ Some (record { ticks = r_of s; operations = t_of s }))
   unfolding trailer_long floor_of
-  with_floor e = (ap (λ (b : Bool). cond b 20 16) e, ap (λ (b : Bool). cond b (Slowest (r_of s) (t_of s)) Absent) e)
+  with_floor e = (ap (λ (b : Bool). cond b 20 16) e, ap (λ (b : Bool). cond b (Some (record { ticks = r_of s; operations = t_of s })) None) e)
 
-  pub without_floor : has_floor s ≡ false → (trailer_long s ≡ 16) × (floor_of s ≡ Absent)
+  pub without_floor : has_floor s ≡ false → (trailer_long s ≡ 16) × (floor_of s ≡ None)
   unfolding trailer_long floor_of
-  without_floor e = (ap (λ (b : Bool). cond b 20 16) e, ap (λ (b : Bool). cond b (Slowest (r_of s) (t_of s)) Absent) e)
+  without_floor e = (ap (λ (b : Bool). cond b 20 16) e, ap (λ (b : Bool). cond b (Some (record { ticks = r_of s; operations = t_of s })) None) e)
 
   -- every trailer has 16 bytes, and none more than 20
   pub trailer_range : (16 ≤ trailer_long s) × (trailer_long s ≤ 20)

@@ -6,18 +6,20 @@ use mathlib.Core.List.{List}
 use native.Mathlib.Omega.{arith}
 use lib.ListN.{length, drop, length-drop}
 use lib.Seq.{length-take-le}
+use Rattle.std.specs.Prelude.{Option, Ok, Err, IsErr, IsErrAnd}
+use Rattle.std.proofs.lemmas.Result.{err_from_is_err_and}
+use Rattle.answers.specs.Numbers.{Answer, number_of, place_of, blocks_of}
 use Rattle.answers.specs.declared.Refusal.{Refusal}
 use Rattle.trials.specs.Rules.{Accepted, Refuses}
-use Rattle.trials.specs.Tries.{After}
-use Rattle.trials.specs.declared.Verdict.{Verdict}
+use Rattle.trials.specs.Tries.{Verdict, After}
 use Rattle.trials.proofs.Passing.{Passed, Quiet, finding}
 use Rattle.rules.specs.Offsets.{Input, reports_of, fastest_of}
 use Rattle.rules.specs.Rules.{many_rule, count_rules, overall_rules, report_rules, plan_rules}
 use Rattle.planner.specs.Outcome.{PlanOutcome}
 use Rattle.rules.specs.declared.Roll.{Roll}
-use Rattle.rules.specs.declared.Floor.{Floor}
+use Rattle.fraction.specs.declared.Pace.{Pace}
 use Rattle.rules.proofs.Leaving.{few_reports}
-use Rattle.planner.proofs.Outcomes.{hands_up, goes_on}
+use Rattle.planner.proofs.Outcomes.{hands_up, handed_up, goes_on}
 use Rattle.roll.specs.Format.{u32_at, count_of, terms_of, floor_of, file_rules, records_at, records_of, column_in, input_in, input_of, RollOutcome}
 use Rattle.roll.specs.Answers.{EndingIs}
 use Rattle.roll.specs.declared.Trailer.{Trailer}
@@ -34,8 +36,11 @@ module _ (s buffer : List ℕ) where
   x = input_of s buffer
 
   -- ---- a trailer that is refused
-  pub refused_roll : {a : Refusal} → Refuses (file_rules s) a → RollOutcome s buffer a.number a.place 0 buffer
-  refused_roll r = hands_up (reports_of x) (fastest_of x) buffer (file_rules s) (plan_rules x) r
+  pub refused_roll : {a : Refusal} (r : Answer) → Refuses (file_rules s) a → IsErr r × IsErrAnd r (λ e. e ≡ a) → RollOutcome s buffer (number_of r) (place_of r) (blocks_of r) buffer
+  refused_roll r h t =
+      let p = err_from_is_err_and r t.1 in
+      subst (λ (y : Answer). RollOutcome s buffer (number_of y) (place_of y) (blocks_of y) buffer) (sym (p.1 ∙ ap Err p.2))
+      (hands_up (reports_of x) (fastest_of x) buffer (file_rules s) (plan_rules x) h)
 
   -- ---- a trailer that is there
   module _ (e : Ending) (a : Accepted (file_rules s)) (g : EndingIs s e) where
@@ -53,13 +58,13 @@ module _ (s buffer : List ℕ) where
         (subst (λ (d : ℕ). After v (count_rules t.count d (length x.operations) x.terms x.floor (length buffer)) r) (c 4)
         (subst (λ (o : ℕ). After v (count_rules t.count t.count o x.terms x.floor (length buffer)) r) (c 8)
         (subst (λ (z : Roll). After v (count_rules t.count t.count t.count z x.floor (length buffer)) r) g.trailer_is.terms_is
-        (subst (λ (f : Floor). After v (count_rules t.count t.count t.count t.terms f (length buffer)) r) g.floor_is h))))
+        (subst (λ (f : Option Pace). After v (count_rules t.count t.count t.count t.terms f (length buffer)) r) g.floor_is h))))
 
     -- one of them is given
-    pub refused_list : {b : Refusal} → Refuses (overall_rules x) b → RollOutcome s buffer b.number b.place 0 buffer
-    refused_list {b} r =
-        goes_on (reports_of x) (fastest_of x) buffer (file_rules s) (plan_rules x) b.number b.place 0 buffer passed
-        (hands_up (reports_of x) (fastest_of x) buffer (overall_rules x) (report_rules (reports_of x) (fastest_of x)) r)
+    pub refused_list : {v : Verdict} {b : Refusal} (r : Answer) → After (Ok tt) (overall_rules x) v → v ≡ Err b → IsErr r × IsErrAnd r (λ e. e ≡ b) → RollOutcome s buffer (number_of r) (place_of r) (blocks_of r) buffer
+    refused_list r t e h =
+        goes_on (reports_of x) (fastest_of x) buffer (file_rules s) (plan_rules x) (number_of r) (place_of r) (blocks_of r) buffer passed
+        (handed_up (reports_of x) (fastest_of x) buffer (overall_rules x) (report_rules (reports_of x) (fastest_of x)) r t e h)
 
     -- none is: there are few enough records
     pub few_records : Passed (overall_rules x) → e.trailer.count ≤ 1024
@@ -84,11 +89,11 @@ module _ (s buffer : List ℕ) where
         (subst (λ (a : List ℕ). PlanOutcome (input_in a (count_of s) (terms_of s) (floor_of s) buffer) number place blocks after) p
         (subst (λ (a : ℕ). PlanOutcome (input_in part a (terms_of s) (floor_of s) buffer) number place blocks after) g.trailer_is.count_is
         (subst (λ (a : Roll). PlanOutcome (input_in part t.count a (floor_of s) buffer) number place blocks after) g.trailer_is.terms_is
-        (subst (λ (a : Floor). PlanOutcome (input_in part t.count t.terms a buffer) number place blocks after) g.floor_is o))))
+        (subst (λ (a : Option Pace). PlanOutcome (input_in part t.count t.terms a buffer) number place blocks after) g.floor_is o))))
 
 -- ---- lists for columns
 pub same_lists :
-    (xs ys ws xs' ys' ws' : List ℕ) (terms : Roll) (floor : Floor) (buffer : List ℕ) (number place blocks : ℕ) (after : List ℕ) →
+    (xs ys ws xs' ys' ws' : List ℕ) (terms : Roll) (floor : Option Pace) (buffer : List ℕ) (number place blocks : ℕ) (after : List ℕ) →
     xs ≡ xs' → ys ≡ ys' → ws ≡ ws' →
     PlanOutcome (record { arrivals = xs; deadlines = ys; operations = ws; terms = terms; floor = floor; buffer = buffer }) number place blocks after →
     PlanOutcome (record { arrivals = xs'; deadlines = ys'; operations = ws'; terms = terms; floor = floor; buffer = buffer }) number place blocks after

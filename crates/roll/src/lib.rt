@@ -3,16 +3,17 @@
 #![tactic(auto)]
 
 use answers::{Answer, Refusal};
+use fraction::Pace;
 use opened::Opened;
 use planner::plan;
-use rules::{Floor, Roll};
+use rules::{ReportList, Roll};
 
 mod bytes;
 mod marks;
 mod opened;
 
 ghost use Rattle.std.specs.Prelude.{◌≡◌, ◌*◌, ◌≤◌, length};
-ghost use Rattle.answers.specs.Numbers.{Proper, number_of, place_of, blocks_of};
+ghost use Rattle.answers.specs.Numbers.{number, number_of, place_of, blocks_of};
 ghost use Rattle.planner.specs.Outcome.{PlanOutcome};
 ghost use Rattle.roll.specs.Format.{input_in, RollOutcome};
 ghost use Rattle.roll.specs.Answers.{TrailerAnswerIs, floor_numbers, NumbersIs, PartFrom, PartIs, numbers_refused};
@@ -42,7 +43,7 @@ impl Trailer {
 #[derive(Clone, Copy)]
 pub struct Ending {
     pub trailer: Trailer,
-    pub floor: Floor,
+    pub floor: Option<Pace>,
 }
 
 // A floor in numbers: 1, R and T where there is one; all 0 where there is none.
@@ -55,17 +56,21 @@ pub struct FloorNumbers {
 }
 
 // A floor in numbers: 1, R and T where there is one; all 0 where there is none.
-impl From<Floor> for FloorNumbers {
+impl From<Option<Pace>> for FloorNumbers {
     ghost from_gives = { λ floor numbers. numbers ≡ floor_numbers floor };
 
-    fn from(floor: Floor) -> FloorNumbers {
+    fn from(floor: Option<Pace>) -> FloorNumbers {
         match floor {
-            Floor::Absent => FloorNumbers {
+            None => FloorNumbers {
                 given: 0,
                 r: 0,
                 t: 0,
             },
-            Floor::Slowest(r, t) => FloorNumbers { given: 1, r, t },
+            Some(pace) => FloorNumbers {
+                given: 1,
+                r: pace.ticks,
+                t: pace.operations,
+            },
         }
     }
 }
@@ -85,7 +90,7 @@ pub struct Numbers {
 
 // What is read of a roll that is refused: the number of the refusal; all else is 0.
 impl From<Refusal> for Numbers {
-    ghost from_gives = { λ refusal numbers. numbers ≡ numbers_refused refusal.number };
+    ghost from_gives = { λ refusal numbers. numbers ≡ numbers_refused (number refusal.fault) };
 
     fn from(refusal: Refusal) -> Numbers {
         let terms = Roll {
@@ -94,9 +99,9 @@ impl From<Refusal> for Numbers {
             q: 0,
         };
         Numbers {
-            refusal: refusal.number,
+            refusal: refusal.number(),
             trailer: Trailer { count: 0, terms },
-            floor: FloorNumbers::from(Floor::Absent),
+            floor: FloorNumbers::from(None),
             at: 0,
             size: 0,
         }
@@ -161,10 +166,15 @@ pub fn read<'a>(file: &'a [u8]) -> Reading<'a>
 }
 
 // Plans the first count records of a part.
-fn plan_records(part: &[u8], count: usize, terms: Roll, floor: Floor, rows: &mut [u32]) -> Answer
+fn plan_records(
+    part: &[u8],
+    count: usize,
+    terms: Roll,
+    floor: Option<Pace>,
+    rows: &mut [u32],
+) -> Answer
     requires { (12 * count ≤ length part.now) × (count ≤ 1024) }
-    ensures plan_outcome { PlanOutcome (input_in part.now count terms floor rows.old) (number_of result) (place_of result) (blocks_of result) rows.new }
-    ensures proper { Proper result }
+    ensures { PlanOutcome (input_in part.now count terms floor rows.old) (number_of result) (place_of result) (blocks_of result) rows.new }
 {
     let mut arrivals = [0u32; Roll::REPORTS];
     let mut deadlines = [0u32; Roll::REPORTS];
@@ -172,24 +182,19 @@ fn plan_records(part: &[u8], count: usize, terms: Roll, floor: Floor, rows: &mut
     bytes::column(part, count, 0, &mut arrivals);
     bytes::column(part, count, 4, &mut deadlines);
     bytes::column(part, count, 8, &mut operations);
-    plan(
-        &arrivals[..count],
-        &deadlines[..count],
-        &operations[..count],
+    let list = ReportList {
+        arrivals: &arrivals[..count],
+        deadlines: &deadlines[..count],
+        operations: &operations[..count],
         terms,
-        floor,
-        rows,
-    )
+    };
+    plan(list, floor, rows)
 }
 
 // Plans the list in a roll, by all the rules, file rules first. What comes back, and what the row
 // buffer then holds, is RollOutcome, for every input.
 pub fn plan_roll(file: &[u8], rows: &mut [u32]) -> Answer
-    ensures roll_outcome { RollOutcome file.now rows.old (number_of result) (place_of result) (blocks_of result) rows.new }
-    ensures proper { Proper result }
+    ensures { RollOutcome file.now rows.old (number_of result) (place_of result) (blocks_of result) rows.new }
 {
-    match Opened::open(file) {
-        Ok(roll) => roll.plan(rows),
-        Err(refusal) => Answer::Refused(refusal),
-    }
+    Opened::open(file)?.plan(rows)
 }

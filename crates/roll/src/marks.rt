@@ -1,15 +1,14 @@
 // A roll's end: the marks there, and what they decide: how long the trailer is, and whether it gives a
 // floor; and the numbers in it.
-ghost use Rattle.std.specs.Prelude.{◌≡◌, ◌+◌, ◌*◌, ◌≤◌, ◌<◌, length};
+ghost use Rattle.std.specs.Prelude.{◌≡◌, ◌+◌, ◌*◌, ◌≤◌, ◌<◌, length, Ok};
 ghost use Rattle.trials.specs.Tries.{Tells, After};
-ghost use Rattle.trials.specs.declared.Verdict.TheVariants.{Silent};
 ghost use Rattle.roll.specs.Format.{ends_in, has_floor, Marked, trailer_long, floor_of, back_of, count_of, trailer_rules};
 ghost use Rattle.roll.specs.Answers.{TrailerIs};
 
 use crate::{Trailer, bytes};
-use answers::Refusal;
-use rules::{Floor, Roll};
-use trials::{Verdict, or_if};
+use answers::Fault;
+use rules::Roll;
+use trials::{Verdict, refuse_if};
 
 // A roll's bytes that are no fewer than those of the shorter trailer: what stands at their end can be
 // read.
@@ -88,13 +87,13 @@ impl Ended<'_> {
         self.file.len() < self.back()
     }
 
-    // Rules 11 to 13.
-    pub fn trailer_rules(self, so_far: Verdict) -> Verdict
-        ensures { After so_far (trailer_rules self.entry.file.now) result }
+    // Rules 11 to 13. One line a rule: whether it is given, and what for.
+    pub fn trailer_rules(self) -> Verdict
+        ensures { After (Ok tt) (trailer_rules self.entry.file.now) result }
     {
-        let v = or_if(so_far, self.unmarked(), Refusal::BAD_MARK, 0);
-        let v = or_if(v, self.bad_back(), Refusal::BAD_BACK, 0);
-        or_if(v, self.too_far(), Refusal::TOO_FAR, 0)
+        refuse_if(self.unmarked(), Fault::BadMark)?;
+        refuse_if(self.bad_back(), Fault::BadBack)?;
+        refuse_if(self.too_far(), Fault::TooFar)
     }
 }
 

@@ -1,6 +1,6 @@
 // A roll that no file rule refuses, and what is read of it.
 ghost use Rattle.std.specs.Prelude.{◌≡◌, MatchResult};
-ghost use Rattle.answers.specs.Numbers.{Proper, number_of, place_of, blocks_of};
+ghost use Rattle.answers.specs.Numbers.{number_of, place_of, blocks_of};
 ghost use Rattle.trials.specs.Rules.{Accepted, Refuses};
 ghost use Rattle.roll.specs.Format.{file_rules, floor_of, records_at, RollOutcome};
 ghost use Rattle.roll.specs.Once.{Accepted-prop};
@@ -8,9 +8,10 @@ ghost use Rattle.roll.specs.Answers.{EndingIs, NumbersIs, PartIs};
 
 use crate::marks::{Ended, short};
 use crate::{Ending, FloorNumbers, Numbers, Trailer, bytes, plan_records};
-use answers::{Answer, Refusal};
-use rules::{Floor, count_rules};
-use trials::Verdict;
+use answers::{Answer, Fault, Refusal};
+use fraction::Pace;
+use rules::count_rules;
+use trials::refuse_if;
 
 // A roll's bytes of which no file rule is given: all that is read of them is there.
 #[derive(Clone, Copy)]
@@ -25,31 +26,23 @@ impl<'a> Opened<'a> {
     pub fn open(file: &'a [u8]) -> Result<Opened<'a>, Refusal>
         ensures { MatchResult result (λ opened. opened.roll.file ≡ file.entry) (λ refusal. Refuses (file_rules file.now) refusal) }
     {
-        if short(file) {
-            return Err(Refusal {
-                number: Refusal::SHORT_ROLL,
-                place: 0,
-            });
-        }
+        refuse_if(short(file), Fault::ShortRoll)?;
         let roll = Ended { file };
-        let tried = roll.trailer_rules(Verdict::Silent);
-        if let Verdict::Given(refusal) = tried {
-            return Err(refusal);
-        }
+        roll.trailer_rules()?;
         Ok(Opened { roll })
     }
 
     // The floor in the trailer: R and T come first.
-    fn floor(self) -> Floor
+    fn floor(self) -> Option<Pace>
         ensures { result ≡ floor_of self.entry.roll.file.now }
     {
         if self.roll.has_floor() {
             let n = self.roll.file.len();
-            let r = bytes::u16_at(self.roll.file, n - Trailer::FLOOR_BYTES);
-            let t = bytes::u16_at(self.roll.file, n - 18);
-            return Floor::Slowest(r, t);
+            let ticks = bytes::u16_at(self.roll.file, n - Trailer::FLOOR_BYTES);
+            let operations = bytes::u16_at(self.roll.file, n - 18);
+            return Some(Pace { ticks, operations });
         }
-        Floor::Absent
+        None
     }
 
     // What the roll's end says.
@@ -96,25 +89,13 @@ impl<'a> Opened<'a> {
     // Plans the list. The rules of the whole list are tried before its records are read, since there is
     // room for 1,024 of them.
     pub fn plan(self, rows: &mut [u32]) -> Answer
-        ensures roll_outcome { RollOutcome self.entry.roll.file.now rows.old (number_of result) (place_of result) (blocks_of result) rows.new }
-        ensures proper { Proper result }
+        ensures { RollOutcome self.entry.roll.file.now rows.old (number_of result) (place_of result) (blocks_of result) rows.new }
     {
         let ending = self.ending();
-        let terms = ending.trailer.terms;
-        let count = ending.trailer.count as usize;
+        let Trailer { count, terms } = ending.trailer;
+        let count = count as usize;
         let floor = ending.floor;
-        let tried = count_rules(
-            Verdict::Silent,
-            count,
-            count,
-            count,
-            terms,
-            floor,
-            rows.len(),
-        );
-        if let Verdict::Given(refusal) = tried {
-            return Answer::Refused(refusal);
-        }
+        count_rules(count, count, count, terms, floor, rows.len())?;
         plan_records(self.part(), count, terms, floor, rows)
     }
 }
