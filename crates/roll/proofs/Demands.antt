@@ -7,7 +7,7 @@ use mathlib.Core.Path.{◌≡◌, ap}
 use mathlib.Core.Bool.{true}
 use mathlib.Core.List.{List}
 use mathlib.Core.Logic.{◌⊎◌, ◌↔◌, inl, inr, ⊎_elim}
-use mathlib.Core.Option.{Option, none, some}
+use Rattle.std.specs.Prelude.{Option, None, Some}
 use native.Mathlib.Omega.{arith}
 use Rattle.trials.specs.Rules.{Accepted}
 use Rattle.trials.proofs.Single.{not_refused}
@@ -18,7 +18,7 @@ use Rattle.critical.specs.Rows.{Critical}
 use Rattle.critical.specs.Cost.{sum_at, Cost, Flatter, bill, NoHigher}
 use Rattle.slowest.specs.Slowest.{UpTo, NoSlower}
 use Rattle.rules.specs.Offsets.{Input, reports_of, fastest_of, slowest_in, slowest_of}
-use Rattle.rules.specs.declared.Floor.{Floor}
+use Rattle.fraction.specs.declared.Pace.{Pace}
 use Rattle.rules.specs.Rules.{plan_rules}
 use Rattle.planner.specs.Outcome.{row_at, running_in, WellFormed, RefusedBy, PlanOutcome}
 use Rattle.planner.proofs.Outcomes.{by_either}
@@ -43,12 +43,12 @@ module _ (s buffer : List ℕ) where
   slowest = slowest_of list
 
   -- A roll marked AQ has no floor,
-  pub marked_aq_it_has_no_floor : ends_in s mark ≡ true → slowest ≡ none
-  marked_aq_it_has_no_floor e = ap (λ (f : Floor). slowest_in f) (without_floor s (plain_mark s e)).1
+  pub marked_aq_it_has_no_floor : ends_in s mark ≡ true → slowest ≡ None
+  marked_aq_it_has_no_floor e = ap (λ (f : Option Pace). slowest_in f) (without_floor s (plain_mark s e)).1
 
   -- and one marked AF has the floor R/T.
-  pub marked_af_it_has_r_over_t : ends_in s floor_mark ≡ true → slowest ≡ some (over (r_of s) (t_of s))
-  marked_af_it_has_r_over_t e = ap (λ (f : Floor). slowest_in f) (with_floor s e).1
+  pub marked_af_it_has_r_over_t : ends_in s floor_mark ≡ true → slowest ≡ Some (over (r_of s) (t_of s))
+  marked_af_it_has_r_over_t e = ap (λ (f : Option Pace). slowest_in f) (with_floor s e).1
 
   -- ---- Demand 1
 

@@ -5,4 +5,3 @@ pub mod OneResult
 pub mod HandsBack
 pub mod Preface
 pub mod Demands
-pub mod Walking

@@ -1,22 +1,55 @@
 -- The marks at a roll's end, and what they decide.
 -- Assumes nothing.
-use Prim.Native.Nat.{ℕ, ◌-◌, ◌≤◌, ◌<◌}
+use Prim.Native.Nat.{ℕ, suc, ◌-◌, ◌≤◌, ◌<◌}
 use mathlib.Core.Path.{◌≡◌, refl, sym, ◌∙◌, ap, ap₂}
 use mathlib.Core.Bool.{Bool, true, false, ◌&&◌, cond, true≢false}
-use mathlib.Core.List.{List}
+use mathlib.Core.List.{List, [], ◌∷◌}
 use mathlib.Core.Logic.{◌⊎◌, inl, inr, ⊎_elim}
 use native.Mathlib.Omega.{arith}
+use native.Mathlib.Decide.{ℕ_discrete}
 use lib.Dec.{eqb}
-use lib.ListN.{length, get_or}
+use lib.ListN.{length, get_or, drop}
+use lib.Pointwise.{pointwise}
+use lib.Seq.{drop-cons, drop-length}
+use Rattle.std.specs.List.{ends_with}
 use borrow.Author.Tests.{eqb-true, eq-eqb, ne_eqb}
 use Rattle.trials.specs.Tries.{Tells}
 use Rattle.trials.proofs.Trying.{tells_yes}
 use Rattle.trials.proofs.Deciding.{Decidable}
 use Rattle.fraction.proofs.Scale.{cases}
-use Rattle.rules.specs.declared.Floor.TheVariants.{Absent, Slowest}
+use Rattle.std.specs.Prelude.{None, Some}
 use Rattle.roll.specs.Format.{r_of, t_of, mark, ends_in, has_floor, trailer_long, floor_of, Marked}
 
--- ---- two bytes, compared one behind the other
+-- ---- the last two bytes, compared with a mark
+last_two : (s : List ℕ) → 2 ≤ length s → drop (length s - 2) s ≡ get_or s (length s - 2) 0 ∷ get_or s (length s - 1) 0 ∷ []
+last_two s h =
+    let one : suc (length s - 2) ≡ length s - 1 = omega arith in
+    let none : suc (length s - 1) ≡ length s = omega arith in
+    drop-cons s (length s - 2) 0 (omega arith)
+    ∙ ap (λ (k : ℕ). get_or s (length s - 2) 0 ∷ drop k s) one
+    ∙ ap (λ (l : List ℕ). get_or s (length s - 2) 0 ∷ l) (drop-cons s (length s - 1) 0 (omega arith))
+    ∙ ap (λ (k : ℕ). get_or s (length s - 2) 0 ∷ get_or s (length s - 1) 0 ∷ drop k s) none
+    ∙ ap (λ (l : List ℕ). get_or s (length s - 2) 0 ∷ get_or s (length s - 1) 0 ∷ l) (drop-length s)
+
+eqb_comm : (a b : ℕ) → eqb a b ≡ eqb b a
+eqb_comm a b = elim (ℕ_discrete a b) [ yes e ↦ eq-eqb _ _ e ∙ sym (eq-eqb _ _ (sym e)) | no h ↦ ne_eqb _ _ h ∙ sym (ne_eqb _ _ (λ q. h (sym q))) ]
+
+and_true : (b : Bool) → (b && true) ≡ b
+and_true true = refl
+and_true false = refl
+
+-- what a comparison of the whole mark at once gives
+pub ends_with_mark : (s m : List ℕ) → 16 ≤ length s → length m ≡ 2 → ends_with eqb s m ≡ ends_in s m
+unfolding ends_in
+ends_with_mark s (a ∷ b ∷ []) h e =
+    let x = get_or s (length s - 2) 0 in
+    let y = get_or s (length s - 1) 0 in
+    ap (λ (l : List ℕ). pointwise eqb (a ∷ b ∷ []) l) (last_two s (omega arith))
+    ∙ ap₂ (λ (p q : Bool). p && q) (eqb_comm a x) (and_true (eqb b y) ∙ eqb_comm b y)
+ends_with_mark s [] h e = absurd (omega (arith, e))
+ends_with_mark s (a ∷ []) h e = absurd (omega (arith, e))
+ends_with_mark s (a ∷ b ∷ c ∷ m) h e = absurd (omega (arith, e))
+
 module _ (s m : List ℕ) where
   pub ends_first : (get_or s (length s - 2) 0 ≡ get_or m 0 0 → ⊥) → false ≡ ends_in s m
   unfolding ends_in
@@ -44,13 +77,13 @@ same_ends s t m e e' = ap₂ (λ (a b : ℕ). eqb a (get_or m 0 0) && eqb b (get
 
 -- ---- what they decide
 module _ (s : List ℕ) where
-  pub with_floor : has_floor s ≡ true → (trailer_long s ≡ 20) × (floor_of s ≡ Slowest (r_of s) (t_of s))
+  pub with_floor : has_floor s ≡ true → (trailer_long s ≡ 20) × (floor_of s ≡ Some (record { ticks = r_of s; operations = t_of s }))
   unfolding trailer_long floor_of
-  with_floor e = (ap (λ (b : Bool). cond b 20 16) e, ap (λ (b : Bool). cond b (Slowest (r_of s) (t_of s)) Absent) e)
+  with_floor e = (ap (λ (b : Bool). cond b 20 16) e, ap (λ (b : Bool). cond b (Some (record { ticks = r_of s; operations = t_of s })) None) e)
 
-  pub without_floor : has_floor s ≡ false → (trailer_long s ≡ 16) × (floor_of s ≡ Absent)
+  pub without_floor : has_floor s ≡ false → (trailer_long s ≡ 16) × (floor_of s ≡ None)
   unfolding trailer_long floor_of
-  without_floor e = (ap (λ (b : Bool). cond b 20 16) e, ap (λ (b : Bool). cond b (Slowest (r_of s) (t_of s)) Absent) e)
+  without_floor e = (ap (λ (b : Bool). cond b 20 16) e, ap (λ (b : Bool). cond b (Some (record { ticks = r_of s; operations = t_of s })) None) e)
 
   -- every trailer has 16 bytes, and none more than 20
   pub trailer_range : (16 ≤ trailer_long s) × (trailer_long s ≤ 20)

@@ -6,6 +6,8 @@ use mathlib.Core.List.{List}
 use mathlib.Core.Logic.{◌⊎◌, ⊎_elim}
 use native.Mathlib.Omega.{arith}
 use denote.Ref.{Bor}
+use Rattle.std.specs.Prelude.{Option, None, Some, Result, Ok, Err}
+use Rattle.answers.specs.declared.Refusal.{Refusal}
 use Rattle.trials.specs.Rules.{Accepted, Refused}
 use Rattle.trials.proofs.Passing.{Passed, last_part}
 use Rattle.trials.proofs.Single.{Soles, singly, not_refused, one_refuses}
@@ -13,14 +15,12 @@ use Rattle.trials.proofs.Deciding.{Decides, Gives, deciding, passed_or_given}
 use Rattle.rules.specs.Offsets.{Input, reports_of, fastest_of}
 use Rattle.rules.specs.Rules.{plan_rules}
 use Rattle.rules.specs.declared.Roll.{Roll}
-use Rattle.rules.specs.declared.Floor.{Floor}
-use Rattle.rules.specs.declared.Floor.TheVariants.{Absent, Slowest}
-use Rattle.answers.specs.Numbers.{number_of, place_of, blocks_of, Proper}
-use Rattle.answers.specs.declared.Answer.{Answer}
-use Rattle.answers.proofs.Replies.{same_answer}
+use Rattle.fraction.specs.declared.Pace.{Pace}
+use Rattle.answers.specs.Numbers.{Answer, number, number_of, place_of, blocks_of}
+use Rattle.answers.proofs.Replies.{always_proper, same_answer}
 use Rattle.planner.proofs.OneResult.{one_outcome}
 use Rattle.planner.proofs.SomeResult.{some_result}
-use Rattle.planner.proofs.Outcomes.{hands_up, goes_on}
+use Rattle.planner.proofs.Outcomes.{refused_outcome, goes_on}
 use Rattle.rules.proofs.Table.{one_plan_rule, works}
 use Rattle.roll.specs.Format.{file_rules, input_of, roll_rules, RollOutcome}
 use Rattle.roll.specs.Answers.{floor_numbers, TrailerAnswerIs, TrailerIs, EndingIs, NumbersRead, NumbersIs, PartFrom, PartIs}
@@ -29,8 +29,6 @@ use Rattle.roll.specs.declared.Ending.{Ending}
 use Rattle.roll.specs.declared.FloorNumbers.{FloorNumbers}
 use Rattle.roll.specs.declared.Numbers.{Numbers}
 use Rattle.roll.specs.declared.Reading.{Reading}
-use Rattle.roll.specs.declared.TrailerAnswer.{TrailerAnswer}
-use Rattle.roll.specs.declared.TrailerAnswer.TheVariants.{Is, Not}
 use Rattle.roll.proofs.Marking.{dec_marked}
 
 -- ---- each rule is given with one place only
@@ -50,13 +48,13 @@ one_roll s buffer =
     let x = input_of s buffer in
     one_outcome (roll_rules s x) (reports_of x) (fastest_of x) buffer (single_roll s x) (λ p. works x (last_part (file_rules s) (plan_rules x) p))
 
--- and one answer: the enum itself.
+-- and one answer, whatever its numbers are called: the Result itself.
 pub one_roll_answer :
     (s buffer : List ℕ) (a b : Answer) (after after' : List ℕ) →
-    RollOutcome s buffer (number_of a) (place_of a) (blocks_of a) after × Proper a → RollOutcome s buffer (number_of b) (place_of b) (blocks_of b) after' × Proper b → (a ≡ b) × (after ≡ after')
+    RollOutcome s buffer (number_of a) (place_of a) (blocks_of a) after → RollOutcome s buffer (number_of b) (place_of b) (blocks_of b) after' → (a ≡ b) × (after ≡ after')
 one_roll_answer s buffer a b after after' v w =
-    let e = one_roll s buffer (number_of a) (place_of a) (blocks_of a) (number_of b) (place_of b) (blocks_of b) after after' v.0 w.0 in
-    (same_answer a b v.1 w.1 e.0 e.1 e.2, e.3)
+    let e = one_roll s buffer (number_of a) (place_of a) (blocks_of a) (number_of b) (place_of b) (blocks_of b) after after' v w in
+    (same_answer a b (always_proper a) (always_proper b) e.0 e.1 e.2, e.3)
 
 -- ---- read_trailer
 trailer : ℕ → Roll → Trailer
@@ -67,7 +65,7 @@ unfolding trailer
 one_trailer s t u v w =
     ap (λ (z : ℕ). trailer z t.terms) (v.count_is ∙ sym w.count_is) ∙ ap (trailer u.count) (v.terms_is ∙ sym w.terms_is)
 
-ending : Trailer → Floor → Ending
+ending : Trailer → Option Pace → Ending
 ending trailer floor = record { trailer = trailer; floor = floor }
 
 one_ending : (s : List ℕ) (e f : Ending) → EndingIs s e → EndingIs s f → e ≡ f
@@ -76,12 +74,12 @@ one_ending s e f v w =
     ap (λ (t : Trailer). ending t e.floor) (one_trailer s e.trailer f.trailer v.trailer_is w.trailer_is) ∙ ap (ending f.trailer) (v.floor_is ∙ sym w.floor_is)
 
 -- The promise of `read_trailer` allows one answer for each string of bytes.
-pub one_trailer_answer : (s : List ℕ) (r r' : TrailerAnswer) → TrailerAnswerIs s r → TrailerAnswerIs s r' → r ≡ r'
+pub one_trailer_answer : (s : List ℕ) (r r' : Result Ending Refusal) → TrailerAnswerIs s r → TrailerAnswerIs s r' → r ≡ r'
 unfolding TrailerAnswerIs
-one_trailer_answer s (Is e) (Is f) v w = ap Is (one_ending s e f v.1 w.1)
-one_trailer_answer s (Is e) (Not b) v w = absurd (not_refused (file_rules s) v.0 b.number b.place w.refused)
-one_trailer_answer s (Not a) (Is f) v w = absurd (not_refused (file_rules s) w.0 a.number a.place v.refused)
-one_trailer_answer s (Not a) (Not b) v w = ap Not (one_refuses (single_file s) v w)
+one_trailer_answer s (Ok e) (Ok f) v w = ap Ok (one_ending s e f v.1 w.1)
+one_trailer_answer s (Ok e) (Err b) v w = absurd (not_refused (file_rules s) v.0 (number b.fault) b.place w.refused)
+one_trailer_answer s (Err a) (Ok f) v w = absurd (not_refused (file_rules s) w.0 (number a.fault) a.place v.refused)
+one_trailer_answer s (Err a) (Err b) v w = ap Err (one_refuses (single_file s) v w)
 
 -- ---- every string of bytes is accepted or refused by the file rules
 pub decides_file : (s : List ℕ) → Decides (file_rules s)
@@ -101,7 +99,7 @@ some_roll s buffer =
       g.place,
       0,
       buffer,
-      hands_up (reports_of x) (fastest_of x) buffer (file_rules s) (plan_rules x) (record { refused = g.refused; numbered = g.numbered }),
+      refused_outcome (reports_of x) (fastest_of x) buffer (file_rules s) (plan_rules x) g.number g.place 0 buffer (record { numbered = g.numbered; refused = g.refused; no_blocks = refl; untouched = refl }),
     ))
     (file_decided s)
 
@@ -123,11 +121,11 @@ one_part s a b v w = by_file s.now (SameSlice a b) (λ q. one_part_from (v.accep
 
 -- ---- a floor in numbers
 -- The numbers of a floor tell which it is: an AF roll with R and T 0 is told from an AQ roll, which has none.
-pub floor_told : (a b : Floor) → floor_numbers a ≡ floor_numbers b → a ≡ b
-floor_told Absent Absent e = refl
-floor_told Absent (Slowest r t) e = absurd (omega (arith, ap (λ (n : FloorNumbers). n.given) e))
-floor_told (Slowest r t) Absent e = absurd (omega (arith, ap (λ (n : FloorNumbers). n.given) e))
-floor_told (Slowest r t) (Slowest r' t') e = ap₂ (λ (x y : ℕ). Slowest x y) (ap (λ (n : FloorNumbers). n.r) e) (ap (λ (n : FloorNumbers). n.t) e)
+pub floor_told : (a b : Option Pace) → floor_numbers a ≡ floor_numbers b → a ≡ b
+floor_told None None e = refl
+floor_told None (Some x) e = absurd (omega (arith, ap (λ (n : FloorNumbers). n.given) e))
+floor_told (Some x) None e = absurd (omega (arith, ap (λ (n : FloorNumbers). n.given) e))
+floor_told (Some x) (Some y) e = ap₂ (λ (ticks operations : ℕ). Some (record { ticks = ticks; operations = operations })) (ap (λ (n : FloorNumbers). n.r) e) (ap (λ (n : FloorNumbers). n.t) e)
 
 -- ---- read_numbers, and read
 numbers : ℕ → Trailer → FloorNumbers → ℕ → ℕ → Numbers

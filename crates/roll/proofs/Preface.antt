@@ -12,8 +12,8 @@ use Rattle.trials.proofs.Alike.{Alike, alike_none, alike_more, alike_back, alike
 use Rattle.rules.specs.Offsets.{Input, reports_of, fastest_of}
 use Rattle.rules.specs.Rules.{plan_rules}
 use Rattle.rules.specs.declared.Roll.{Roll}
-use Rattle.rules.specs.declared.Floor.{Floor}
-use Rattle.rules.specs.declared.Floor.TheVariants.{Slowest}
+use Rattle.fraction.specs.declared.Pace.{Pace}
+use Rattle.std.specs.Prelude.{Option, Some}
 use Rattle.planner.specs.Outcome.{PlanOutcome}
 use Rattle.planner.proofs.Outcomes.{by_either, refused_outcome, goes_on}
 use Rattle.roll.specs.Format.{u16_at, u32_at, back_of, count_of, terms_of, mark, floor_mark, ends_in, has_floor, trailer_long, floor_of, Marked, file_rules, records_of, input_in, input_of, RollOutcome}
@@ -103,7 +103,7 @@ module _ (preface rest : List ℕ) where
         go true e =
             let n : 20 ≤ length rest = omega (arith, long, (with_floor rest e).0) in
             (with_floor s (ends_same floor_mark ∙ e)).1
-            ∙ ap₂ (λ (r t : ℕ). Slowest r t) (two_end 20 n) (two_end 18 (omega (arith, n))) ∙ sym (with_floor rest e).1
+            ∙ ap₂ (λ (r t : ℕ). Some (record { ticks = r; operations = t })) (two_end 20 n) (two_end 18 (omega (arith, n))) ∙ sym (with_floor rest e).1
         go false e = (without_floor s (ends_same floor_mark ∙ e)).1 ∙ sym (without_floor rest e).1
 
     -- so is the list
@@ -111,7 +111,7 @@ module _ (preface rest : List ℕ) where
     input_same buffer =
         ap (λ (part : List ℕ). input_in part (count_of s) (terms_of s) (floor_of s) buffer) records_same
         ∙ ap₂ (λ (k : ℕ) (t : Roll). input_in (records_of rest) k t (floor_of s) buffer) count_same terms_same
-        ∙ ap (λ (f : Floor). input_in (records_of rest) (count_of rest) (terms_of rest) f buffer) floor_same
+        ∙ ap (λ (f : Option Pace). input_in (records_of rest) (count_of rest) (terms_of rest) f buffer) floor_same
 
     -- ---- and the file rules are given alike
     marked_there : Marked s → Marked rest

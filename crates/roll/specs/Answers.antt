@@ -1,18 +1,15 @@
 -- What the reader of a roll gives back.
 -- Assumes nothing.
-use Rattle.std.specs.Prelude.{ℕ, ◌+◌, ◌≡◌, List, take, drop}
+use Rattle.std.specs.Prelude.{ℕ, ◌+◌, ◌≡◌, List, take, drop, Option, None, Some, Result, Ok, Err}
 use Rattle.std.specs.Borrow.{Bor}
 use Rattle.trials.specs.Rules.{Refused, Accepted, Refuses}
-use Rattle.rules.specs.declared.Floor.{Floor}
-use Rattle.rules.specs.declared.Floor.TheVariants.{Absent, Slowest}
+use Rattle.fraction.specs.declared.Pace.{Pace}
 use Rattle.roll.specs.Format.{count_of, terms_of, floor_of, file_rules, records_at, records_long}
 use Rattle.answers.specs.declared.Refusal.{Refusal}
 use Rattle.roll.specs.declared.Trailer.{Trailer}
 use Rattle.roll.specs.declared.Ending.{Ending}
 use Rattle.roll.specs.declared.FloorNumbers.{FloorNumbers}
 use Rattle.roll.specs.declared.Numbers.{Numbers}
-use Rattle.roll.specs.declared.TrailerAnswer.{TrailerAnswer}
-use Rattle.roll.specs.declared.TrailerAnswer.TheVariants.{Is, Not}
 
 -- A trailer's numbers are those of the roll.
 pub record TrailerIs (s : List ℕ) (t : Trailer) : Type 0 where
@@ -25,19 +22,14 @@ pub record EndingIs (s : List ℕ) (e : Ending) : Type 0 where
   pub floor_is : e.floor ≡ floor_of s
 
 -- The trailer is there where no file rule is given; else the refusal is that of the first that is.
-unfoldable pub TrailerAnswerIs : List ℕ → TrailerAnswer → Type 0
-TrailerAnswerIs s (Is e) = Accepted (file_rules s) × EndingIs s e
-TrailerAnswerIs s (Not refusal) = Refuses (file_rules s) refusal
-
--- The refusal in a trailer's answer; number 0 and place 0 where the trailer is there.
-abbrev pub refusal_in : TrailerAnswer → Refusal
-refusal_in (Is e) = record { number = 0; place = 0 }
-refusal_in (Not refusal) = refusal
+unfoldable pub TrailerAnswerIs : List ℕ → Result Ending Refusal → Type 0
+TrailerAnswerIs s (Ok e) = Accepted (file_rules s) × EndingIs s e
+TrailerAnswerIs s (Err refusal) = Refuses (file_rules s) refusal
 
 -- A floor in numbers: 1, R and T; all 0 where it is absent, as it is in an AQ roll.
-abbrev pub floor_numbers : Floor → FloorNumbers
-floor_numbers Absent = record { given = 0; r = 0; t = 0 }
-floor_numbers (Slowest r t) = record { given = 1; r = r; t = t }
+abbrev pub floor_numbers : Option Pace → FloorNumbers
+floor_numbers None = record { given = 0; r = 0; t = 0 }
+floor_numbers (Some pace) = record { given = 1; r = pace.ticks; t = pace.operations }
 
 -- What is read of a roll, in numbers: no refusal, the trailer's numbers, the floor's, and where the part with the records lies, and its size.
 pub record NumbersRead (s : List ℕ) (n : Numbers) : Type 0 where
@@ -52,7 +44,7 @@ abbrev pub numbers_refused : ℕ → Numbers
 numbers_refused number = record {
   refusal = number;
   trailer = record { count = 0; terms = record { reference = 0; p = 0; q = 0 } };
-  floor = floor_numbers Absent;
+  floor = floor_numbers None;
   at = 0;
   size = 0;
 }

@@ -1,14 +1,13 @@
 -- The roll (01, "The roll"): records of 12 bytes, then a trailer of 16 that points back; of 20 where the mark says that it begins with a floor (02, W2). A free preface stands before the records and is never looked at.
 -- A roll is a list of bytes s; its trailer is read from the end.
 -- Assumes nothing.
-use Rattle.std.specs.Prelude.{ℕ, ◌+◌, ◌*◌, ◌-◌, ◌<◌, ◌≡◌, Bool, true, ◌&&◌, cond, List, [], ◌∷◌, ◌++◌, ◌⊎◌, eqb, length, get_or, take, drop}
+use Rattle.std.specs.Prelude.{ℕ, ◌+◌, ◌*◌, ◌-◌, ◌<◌, ◌≡◌, Bool, true, ◌&&◌, cond, List, [], ◌∷◌, ◌++◌, ◌⊎◌, eqb, length, get_or, take, drop, Option, None, Some}
 use Rattle.lists.specs.Listed.{listed}
 use Rattle.trials.specs.Rules.{Rule, rule, Overall}
 use Rattle.rules.specs.Offsets.{Input, reports_of, fastest_of}
 use Rattle.rules.specs.Rules.{plan_rules}
 use Rattle.rules.specs.declared.Roll.{Roll}
-use Rattle.rules.specs.declared.Floor.{Floor}
-use Rattle.rules.specs.declared.Floor.TheVariants.{Absent, Slowest}
+use Rattle.fraction.specs.declared.Pace.{Pace}
 use Rattle.planner.specs.Outcome.{Outcome}
 
 -- All numbers are little-endian: two bytes, and four.
@@ -61,8 +60,8 @@ unfoldable pub trailer_long : List ℕ → ℕ
 trailer_long s = cond (has_floor s) 20 16
 
 -- and what floor it gives.
-unfoldable pub floor_of : List ℕ → Floor
-floor_of s = cond (has_floor s) (Slowest (r_of s) (t_of s)) Absent
+unfoldable pub floor_of : List ℕ → Option Pace
+floor_of s = cond (has_floor s) (Some (record { ticks = r_of s; operations = t_of s })) None
 
 -- One of the marks stands at the roll's end.
 pub record Marked (s : List ℕ) : Type 0 where
@@ -108,7 +107,7 @@ abbrev pub column_in : List ℕ → ℕ → ℕ → List ℕ
 column_in part count at = listed count (λ i. u32_at part (12 * i + at))
 
 -- What the planner is handed: the records of a part, a trailer's terms, its floor, and a row buffer.
-abbrev pub input_in : List ℕ → ℕ → Roll → Floor → List ℕ → Input
+abbrev pub input_in : List ℕ → ℕ → Roll → Option Pace → List ℕ → Input
 input_in part count terms floor buffer = record {
   arrivals = column_in part count 0;
   deadlines = column_in part count 4;

@@ -1,77 +1,108 @@
-// The marks at a roll's end, and what they decide: how long the trailer is, and whether it gives a floor.
-ghost use Rattle.std.specs.Prelude.{◌≡◌, ◌≤◌, ◌<◌, length};
-ghost use Rattle.trials.specs.Tries.{Tells};
-ghost use Rattle.roll.specs.Format.{ends_in, has_floor, Marked, trailer_long, floor_of};
+// A roll's end: the marks there, and what they decide: how long the trailer is, and whether it gives a
+// floor; and the numbers in it.
+ghost use Rattle.std.specs.Prelude.{◌≡◌, ◌+◌, ◌*◌, ◌≤◌, ◌<◌, length, Ok};
+ghost use Rattle.trials.specs.Tries.{Tells, After};
+ghost use Rattle.roll.specs.Format.{ends_in, has_floor, Marked, trailer_long, floor_of, back_of, count_of, trailer_rules};
+ghost use Rattle.roll.specs.Answers.{TrailerIs};
 
 use crate::{Trailer, bytes};
-use rules::Floor;
+use answers::Fault;
+use rules::Roll;
+use trials::{Verdict, refuse_if};
 
-// Whether a mark stands at the roll's end.
-fn ends_in(file: &[u8], mark: [u8; 2]) -> bool
-    requires { 16 ≤ length file.now }
-    ensures { result ≡ ends_in file.now mark }
-{
-    let n = file.len();
-    if file[n - 2] != mark[0] {
-        return false;
-    }
-    file[n - 1] == mark[1]
+// A roll's bytes that are no fewer than those of the shorter trailer: what stands at their end can be
+// read.
+#[derive(Clone, Copy)]
+pub struct Ended<'a> {
+    pub file: &'a [u8],
+    ghost long: { 16 ≤ length file.now },
 }
 
-// Whether the mark is that of a roll with a floor: all that a mark decides is decided here.
-fn has_floor(file: &[u8]) -> bool
-    requires { 16 ≤ length file.now }
-    ensures { result ≡ has_floor file.now }
-{
-    ends_in(file, Trailer::FLOOR_MARK)
+impl Ended<'_> {
+    // Whether a mark stands at the end.
+    fn ends_in(self, mark: [u8; 2]) -> bool
+        ensures { result ≡ ends_in self.entry.file.now mark }
+    {
+        self.file.ends_with(&mark)
+    }
+
+    // Whether the mark is that of a roll with a floor: all that a mark decides is decided here.
+    pub fn has_floor(self) -> bool
+        ensures { result ≡ has_floor self.entry.file.now }
+    {
+        self.ends_in(Trailer::FLOOR_MARK)
+    }
+
+    // Whether the mark is wrong.
+    fn unmarked(self) -> bool
+        ensures { Tells (Marked self.entry.file.now → ⊥) result }
+    {
+        !self.has_floor() && !self.ends_in(Trailer::MARK)
+    }
+
+    // The trailer's bytes.
+    pub fn trailer_bytes(self) -> usize
+        ensures { result ≡ trailer_long self.entry.file.now }
+    {
+        if self.has_floor() {
+            Trailer::FLOOR_BYTES
+        } else {
+            Trailer::BYTES
+        }
+    }
+
+    // The back distance.
+    pub fn back(self) -> usize
+        ensures { result ≡ back_of self.entry.file.now }
+    {
+        bytes::u32_at(self.file, self.file.len() - Trailer::BYTES) as usize
+    }
+
+    // The trailer's numbers.
+    pub fn trailer(self) -> Trailer
+        ensures { TrailerIs self.entry.file.now result }
+    {
+        let n = self.file.len();
+        let reference = bytes::u32_at(self.file, n - 12);
+        let p = bytes::u16_at(self.file, n - 6);
+        let q = bytes::u16_at(self.file, n - 4);
+        Trailer {
+            count: bytes::u16_at(self.file, n - 8),
+            terms: Roll { reference, p, q },
+        }
+    }
+
+    // Whether the back distance is not that of the record count.
+    fn bad_back(self) -> bool
+        ensures { Tells (back_of self.entry.file.now ≡ trailer_long self.entry.file.now + 12 * count_of self.entry.file.now → ⊥) result }
+    {
+        let count = bytes::u16_at(self.file, self.file.len() - 8) as usize;
+        self.back() != self.trailer_bytes() + Trailer::RECORD * count
+    }
+
+    // Whether the back distance exceeds the roll's length.
+    fn too_far(self) -> bool
+        ensures { Tells (length self.entry.file.now < back_of self.entry.file.now) result }
+    {
+        self.file.len() < self.back()
+    }
+
+    // Rules 11 to 13. One line a rule: whether it is given, and what for.
+    pub fn trailer_rules(self) -> Verdict
+        ensures { After (Ok tt) (trailer_rules self.entry.file.now) result }
+    {
+        refuse_if(self.unmarked(), Fault::BadMark)?;
+        refuse_if(self.bad_back(), Fault::BadBack)?;
+        refuse_if(self.too_far(), Fault::TooFar)
+    }
 }
 
-// Whether the mark at the roll's end is wrong.
-pub fn unmarked(file: &[u8]) -> bool
-    requires { 16 ≤ length file.now }
-    ensures { Tells (Marked file.now → ⊥) result }
-{
-    if has_floor(file) {
-        return false;
-    }
-    if ends_in(file, Trailer::MARK) {
-        return false;
-    }
-    true
-}
-
-// The trailer's bytes.
-pub fn trailer_bytes(file: &[u8]) -> usize
-    requires { 16 ≤ length file.now }
-    ensures { result ≡ trailer_long file.now }
-{
-    if has_floor(file) {
-        return Trailer::FLOOR_BYTES;
-    }
-    Trailer::BYTES
-}
-
-// Whether the roll is shorter than its trailer.
+// Whether a roll is shorter than its trailer.
 pub fn short(file: &[u8]) -> bool
     ensures { Tells (length file.now < trailer_long file.now) result }
 {
     if file.len() < Trailer::BYTES {
         return true;
     }
-    let bytes = trailer_bytes(file);
-    file.len() < bytes
-}
-
-// The floor in the trailer: R and T come first.
-pub fn floor_of(file: &[u8]) -> Floor
-    requires { trailer_long file.now ≤ length file.now }
-    ensures { result ≡ floor_of file.now }
-{
-    if has_floor(file) {
-        let n = file.len();
-        let r = bytes::u16_at(file, n - Trailer::FLOOR_BYTES);
-        let t = bytes::u16_at(file, n - 18);
-        return Floor::Slowest(r, t);
-    }
-    Floor::Absent
+    file.len() < Ended { file }.trailer_bytes()
 }

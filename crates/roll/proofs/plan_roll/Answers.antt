@@ -1,20 +1,14 @@
--- The trailer is refused, or its list is planned.
-use Rattle.std.proofs.Common.{refl, sym, ap, ◌∙◌, subst}
-use Rattle.trials.specs.Rules.{Refuses}
-use Rattle.roll.specs.Format.{file_rules}
-use Rattle.roll.specs.Answers.{refusal_in}
-use Rattle.roll.specs.declared.TrailerAnswer.{TrailerAnswer}
-use Rattle.roll.proofs.FileRules.{refuses_file}
+-- The roll is refused, or its list is planned.
+use Rattle.std.proofs.Common.{subst, List, ℕ, Bor}
+use Rattle.answers.specs.Numbers.{number_of, place_of, blocks_of}
+use Rattle.roll.specs.Format.{RollOutcome}
 use Rattle.roll.proofs.Rolls.{refused_roll}
 use Rattle.roll.proofs.plan_roll.Goals as goal
 
--- the refusal that is handed back is that of the trailer
-given : (c : goal.After-refusal_of) → Refuses (file_rules c.args.file.now) c.refusal_of.result
-given c =
-    subst (Refuses (file_rules c.args.file.now)) (sym (c.refusal_of.ensures ∙ ap (λ (a : TrailerAnswer). refusal_in a) c.in_default.is)) (refuses_file _ c.in_default.ensures refl)
+pub returns-in_err-open : goal.returns-in_err-open
+returns-in_err-open c = refused_roll c.args.file.now c.args.rows.now c.from_residual.result c.in_err-open.ensures c.from_residual.ensures
 
-pub returns-in_default-clause-roll_outcome : goal.returns-in_default-clause-roll_outcome
-returns-in_default-clause-roll_outcome c = refused_roll c.args.file.now c.args.rows.now (given c)
-
-pub returns-in_default-clause-proper : goal.returns-in_default-clause-proper
-returns-in_default-clause-proper c = (given c).numbered
+pub returns : goal.returns
+returns c =
+    let a = c.plan.result in
+    subst (λ (file : Bor (List ℕ)). RollOutcome file.now c.args.rows.now (number_of a) (place_of a) (blocks_of a) c.plan.new.rows) c.in_ok-open.ensures c.plan.ensures

@@ -1,17 +1,12 @@
--- Rule 10, and then the rules of the trailer.
-use Rattle.trials.proofs.Trying.{passed, refuses}
-use Rattle.roll.proofs.Marking.{not_short}
-use Rattle.roll.proofs.FileRules.{too_short, refused_trailer, found_trailer}
+-- What the roll's end says, or its refusal.
+use Rattle.std.proofs.Common.{subst, List, ℕ, Bor, Ok}
+use Rattle.std.proofs.lemmas.Result.{err_from_is_err_and}
+use Rattle.roll.specs.Answers.{TrailerAnswerIs}
+use Rattle.roll.proofs.FileRules.{trailer_there, trailer_refused}
 use Rattle.roll.proofs.read_trailer.Goals as goal
 
-pub returns-then-short : goal.returns-then-short
-returns-then-short c = too_short _ (c.short.ensures.yes c.if-short.true)
-
-pub trailer_rules-tried-requires : goal.trailer_rules-tried-requires
-trailer_rules-tried-requires c = (not_short _ (c.short.ensures.no c.if-short.false)).1
-
-pub returns-in-Given : goal.returns-in-Given
-returns-in-Given c = refused_trailer _ (c.short.ensures.no c.if-short.false) (refuses c.trailer_rules-tried.ensures c.in-Given.is)
+pub returns-in_err-open : goal.returns-in_err-open
+returns-in_err-open c = let p = err_from_is_err_and c.from_residual.result c.from_residual.ensures.1 in rw (p.1, p.2) (trailer_refused c.in_err-open.ensures)
 
 pub returns : goal.returns
-returns c = found_trailer _ (c.short.ensures.no c.if-short.false) (passed c.trailer_rules-tried.ensures c.in_default.is) c.ending_of.ensures
+returns c = subst (λ (file : Bor (List ℕ)). TrailerAnswerIs file.now (Ok c.ending.result)) c.in_ok-open.ensures (trailer_there c.in_ok-open.field-0.accepted c.ending.ensures)

@@ -5,7 +5,4 @@ use Rattle.roll.specs.Format.{u32_at}
 use Rattle.roll.proofs.bytes.column.Given as goal
 
 abbrev pub invariant-loop-i : goal.invariant-loop-i
-invariant-loop-i l = Filled (λ j. u32_at l.part (12 * j + l.at)) l.count l.fn.out l.i l.out
-
-abbrev pub decreases-loop-i : goal.decreases-loop-i
-decreases-loop-i l = l.count - l.i
+invariant-loop-i l = Filled (λ j. u32_at l.part (12 * j + l.at)) l.count l.initial.number-items l.i l.number-items

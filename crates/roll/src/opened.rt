@@ -1,0 +1,101 @@
+// A roll that no file rule refuses, and what is read of it.
+ghost use Rattle.std.specs.Prelude.{◌≡◌, MatchResult};
+ghost use Rattle.answers.specs.Numbers.{number_of, place_of, blocks_of};
+ghost use Rattle.trials.specs.Rules.{Accepted, Refuses};
+ghost use Rattle.roll.specs.Format.{file_rules, floor_of, records_at, RollOutcome};
+ghost use Rattle.roll.specs.Once.{Accepted-prop};
+ghost use Rattle.roll.specs.Answers.{EndingIs, NumbersIs, PartIs};
+
+use crate::marks::{Ended, short};
+use crate::{Ending, FloorNumbers, Numbers, Trailer, bytes, plan_records};
+use answers::{Answer, Fault, Refusal};
+use fraction::Pace;
+use rules::count_rules;
+use trials::refuse_if;
+
+// A roll's bytes of which no file rule is given: all that is read of them is there.
+#[derive(Clone, Copy)]
+pub struct Opened<'a> {
+    pub roll: Ended<'a>,
+    ghost accepted: { Accepted (file_rules roll.file.now) } by { Accepted-prop (file_rules roll.file.now) },
+}
+
+impl<'a> Opened<'a> {
+    // Opens a roll: file rules 10 to 13, in their order. One that is too short for its trailer is not
+    // read any further.
+    pub fn open(file: &'a [u8]) -> Result<Opened<'a>, Refusal>
+        ensures { MatchResult result (λ opened. opened.roll.file ≡ file.entry) (λ refusal. Refuses (file_rules file.now) refusal) }
+    {
+        refuse_if(short(file), Fault::ShortRoll)?;
+        let roll = Ended { file };
+        roll.trailer_rules()?;
+        Ok(Opened { roll })
+    }
+
+    // The floor in the trailer: R and T come first.
+    fn floor(self) -> Option<Pace>
+        ensures { result ≡ floor_of self.entry.roll.file.now }
+    {
+        if self.roll.has_floor() {
+            let n = self.roll.file.len();
+            let ticks = bytes::u16_at(self.roll.file, n - Trailer::FLOOR_BYTES);
+            let operations = bytes::u16_at(self.roll.file, n - 18);
+            return Some(Pace { ticks, operations });
+        }
+        None
+    }
+
+    // What the roll's end says.
+    pub fn ending(self) -> Ending
+        ensures { EndingIs self.entry.roll.file.now result }
+    {
+        Ending {
+            trailer: self.roll.trailer(),
+            floor: self.floor(),
+        }
+    }
+
+    // Where the records begin: the back distance before the end.
+    fn records_at(self) -> usize
+        ensures { result ≡ records_at self.entry.roll.file.now }
+    {
+        let reach = self.roll.back();
+        self.roll.file.len() - reach
+    }
+
+    // What is read, in numbers.
+    pub fn numbers(self) -> Numbers
+        ensures { NumbersIs self.entry.roll.file.now result }
+    {
+        let ending = self.ending();
+        Numbers {
+            refusal: 0,
+            trailer: ending.trailer,
+            floor: FloorNumbers::from(ending.floor),
+            at: self.records_at(),
+            size: Trailer::RECORD * ending.trailer.count as usize,
+        }
+    }
+
+    // The part with the records, no copy.
+    pub fn part(self) -> &'a [u8]
+        ensures { PartIs self.entry.roll.file result }
+    {
+        let from = self.records_at();
+        let to = from + Trailer::RECORD * self.ending().trailer.count as usize;
+        &self.roll.file[from..to]
+    }
+
+    // Plans the list. The rules of the whole list are tried before its records are read, since there is
+    // room for 1,024 of them.
+    pub fn plan(self, rows: &mut [u32]) -> Answer
+        ensures { RollOutcome self.entry.roll.file.now rows.old (number_of result) (place_of result) (blocks_of result) rows.new }
+    {
+        let ending = self.ending();
+        let Trailer { count, terms } = ending.trailer;
+        let count = count as usize;
+        let floor = ending.floor;
+        count_rules(count, count, count, terms, floor, rows.len())?;
+        plan_records(self.part(), count, terms, floor, rows)
+    }
+}
