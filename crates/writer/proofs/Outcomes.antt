@@ -7,7 +7,7 @@ use mathlib.Core.Logic.{◌↔◌, inl, inr, ⊎_elim}
 use native.Mathlib.Omega.{arith}
 use lib.Dec.{ltb}
 use lib.ListN.{length, get_or, take, drop}
-use Rattle.std.specs.Prelude.{Ok, Err, IsErr, IsErrAnd, IfOk}
+use Rattle.std.specs.Prelude.{Ok, Err, IsErr, IsErrAnd}
 use Rattle.answers.specs.Numbers.{number, number_of, place_of}
 use Rattle.answers.specs.declared.Refusal.{Refusal}
 use Rattle.answers.proofs.Replies.{numbered}
@@ -18,7 +18,7 @@ use Rattle.trials.specs.Tries.{Tells, Verdict, After}
 use Rattle.trials.proofs.Passing.{Passed, Quiet, finding, untrue, not_given, more, none}
 use Rattle.trials.proofs.Numbers.{Never, never_none, never_other, never_this}
 use Rattle.trials.proofs.Single.{not_refused}
-use Rattle.trials.proofs.Trying.{tells_as, tells_below, refuses_on}
+use Rattle.trials.proofs.Trying.{tells_as, tells_below, passed, refuses_on}
 use Rattle.fraction.proofs.Scale.{cases}
 use Rattle.rules.specs.Rules.{lengths_rule, many_rule}
 use Rattle.rules.specs.Leaves.{Even}
@@ -52,6 +52,10 @@ module _ (x : Listing) (before : List ℕ) (at : ℕ) where
         q_most = cases 65535 x.terms.q (λ l. absurd (untrue wide (inr l))) (λ g. g);
         room = cases (length before) (at + roll_long (length x.arrivals)) (λ l. absurd (untrue room l)) (λ g. g);
       }
+
+  -- where the rules, tried by a `?`, are silent
+  pub left : {v : Verdict} → After (Ok tt) (rules_for x before at) v → v ≡ Ok tt → Writable x before at
+  left t e = leaves (passed t e)
 
   -- ---- a rule is given
   pub refused : (n place : ℕ) → 0 < n → Refused (rules_for x before at) n place → WriteOutcome x before at n place 0 before

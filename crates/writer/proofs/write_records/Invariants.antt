@@ -4,4 +4,4 @@ use Rattle.writer.proofs.Laying.{Laid}
 use Rattle.writer.proofs.write_records.Given as goal
 
 abbrev pub invariant-loop-i : goal.invariant-loop-i
-invariant-loop-i l = Laid l.arrivals l.deadlines l.operations l.initial.part l.i l.part
+invariant-loop-i l = Laid l.list.arrivals.now l.list.deadlines.now l.list.operations.now l.initial.part l.i l.part
