@@ -44,10 +44,8 @@ pub fn put_line(numbers: &[u64], out: &mut [u8], at: usize) -> usize
 {
     let last = numbers.len() - 1;
     let mut behind = at;
-    let mut i = 0;
-    while i < last {
-        behind = put_ended(numbers[i], b' ', out, behind);
-        i += 1;
+    for &n in &numbers[..last] {
+        behind = put_ended(n, b' ', out, behind);
     }
     put_ended(numbers[last], b'\n', out, behind)
 }
