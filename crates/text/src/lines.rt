@@ -1,4 +1,4 @@
-// The lines of a plan, put into a buffer from a place on; the place behind them comes back.
+// The lines of a plan, put at the front of a buffer; how many bytes they take comes back.
 ghost use Rattle.std.specs.Prelude.{◌≡◌, ◌+◌, ◌*◌, ◌≤◌, length};
 ghost use Rattle.answers.specs.Numbers.{width};
 ghost use Rattle.lists.specs.Puts.{Puts};
@@ -8,13 +8,13 @@ use crate::put;
 use answers::Row;
 
 // The first line: its word, and three numbers.
-pub fn put_first(number: u64, place: u64, blocks: u64, out: &mut [u8], at: usize) -> usize
-    requires { at + text_room 0 ≤ length out.old }
-    ensures puts { Puts out.old at (first_line number place blocks) result out.new }
-    ensures upper_bound { result ≤ at + text_room 0 }
+pub fn put_first(number: u64, place: u64, blocks: u64, out: &mut [u8]) -> usize
+    requires { text_room 0 ≤ length out.old }
+    ensures puts { Puts out.old 0 (first_line number place blocks) result out.new }
+    ensures upper_bound { result ≤ text_room 0 }
 {
-    let word = put::put(b"plan ", out, at);
-    put::put_line(&[number, place, blocks], out, word)
+    let word = put::put(b"plan ", out);
+    word + put::put_line(&[number, place, blocks], &mut out[word..])
 }
 
 // The numbers of a row in 64 bits, as a line takes them.
@@ -25,16 +25,16 @@ fn widened(row: &[u32; Row::WIDTH]) -> [u64; Row::WIDTH]
 }
 
 // One line a block.
-pub fn put_rows(rows: &[u32], blocks: usize, out: &mut [u8], at: usize) -> usize
+pub fn put_rows(rows: &[u32], blocks: usize, out: &mut [u8]) -> usize
     requires rows_long { width * blocks ≤ length rows.now }
-    requires room { at + line_room width * blocks ≤ length out.old }
-    ensures puts { Puts out.old at (row_lines rows.now blocks) result out.new }
-    ensures upper_bound { result ≤ at + line_room width * blocks }
+    requires room { line_room width * blocks ≤ length out.old }
+    ensures puts { Puts out.old 0 (row_lines rows.now blocks) result out.new }
+    ensures upper_bound { result ≤ line_room width * blocks }
 {
     let (rows, _) = rows.as_chunks::<{ Row::WIDTH }>();
-    let mut behind = at;
+    let mut behind = 0;
     for row in &rows[..blocks] {
-        behind = put::put_line(&widened(row), out, behind);
+        behind += put::put_line(&widened(row), &mut out[behind..]);
     }
     behind
 }

@@ -6,4 +6,4 @@ use Rattle.text.proofs.Spaced.{spaced}
 use Rattle.text.proofs.put.put_line.Given as goal
 
 abbrev pub invariant-loop-n : goal.invariant-loop-n
-invariant-loop-n l = Turns l.initial.out l.at (spaced l.numbers) (line_room 1) l.n-index l.behind l.out
+invariant-loop-n l = Turns l.initial.out 0 (spaced l.numbers) (line_room 1) l.n-index l.behind l.out
