@@ -40,20 +40,16 @@ fn named(rt: &impl Print, name: &[u8], input: &[u8]) -> io::Result<()> {
     plan(rt, input)
 }
 
-// The sample with one byte changed.
-fn changed(rt: &impl Print, name: &[u8], at: usize, to: u8) -> io::Result<()>
-    requires { at < 40 }
+// A roll with one byte changed.
+fn changed<const N: usize>(
+    rt: &impl Print,
+    name: &[u8],
+    mut roll: [u8; N],
+    at: usize,
+    to: u8,
+) -> io::Result<()>
+    requires { at < N }
 {
-    let mut roll = SAMPLE;
-    roll[at] = to;
-    named(rt, name, &roll)
-}
-
-// The sample with a floor, with one byte changed.
-fn changed_floor(rt: &impl Print, name: &[u8], at: usize, to: u8) -> io::Result<()>
-    requires { at < 44 }
-{
-    let mut roll = FLOORED;
     roll[at] = to;
     named(rt, name, &roll)
 }
@@ -61,14 +57,20 @@ fn changed_floor(rt: &impl Print, name: &[u8], at: usize, to: u8) -> io::Result<
 // Rolls with a floor: the rows are as without one, and every rule in which 20 stands for 16.
 fn floors(rt: &impl Print) -> io::Result<()> {
     named(rt, b"0, the sample with the floor 3/2:\n", &FLOORED)?;
-    changed_floor(rt, b"0, the floor is P/Q:\n", 24, 2)?;
-    changed_floor(rt, b"16, R is 0:\n", 24, 0)?;
-    changed_floor(rt, b"16, T is 0:\n", 26, 0)?;
-    changed_floor(rt, b"17, the floor is 1/2:\n", 24, 1)?;
-    changed_floor(rt, b"4 before 17, the floor is 3/2 and Q is 0:\n", 40, 0)?;
-    changed_floor(rt, b"11, the mark is AE:\n", 43, 0x45)?;
-    changed_floor(rt, b"12, marked AQ:\n", 43, 0x51)?;
-    changed_floor(rt, b"12, the back distance of AQ:\n", 28, 40)?;
+    changed(rt, b"0, the floor is P/Q:\n", FLOORED, 24, 2)?;
+    changed(rt, b"16, R is 0:\n", FLOORED, 24, 0)?;
+    changed(rt, b"16, T is 0:\n", FLOORED, 26, 0)?;
+    changed(rt, b"17, the floor is 1/2:\n", FLOORED, 24, 1)?;
+    changed(
+        rt,
+        b"4 before 17, the floor is 3/2 and Q is 0:\n",
+        FLOORED,
+        40,
+        0,
+    )?;
+    changed(rt, b"11, the mark is AE:\n", FLOORED, 43, 0x45)?;
+    changed(rt, b"12, marked AQ:\n", FLOORED, 43, 0x51)?;
+    changed(rt, b"12, the back distance of AQ:\n", FLOORED, 28, 40)?;
     let mut roll = FLOORED;
     roll[28] = 56;
     roll[36] = 3;
@@ -79,12 +81,12 @@ fn floors(rt: &impl Print) -> io::Result<()> {
 
 // Rules of the file.
 fn file_rules(rt: &impl Print) -> io::Result<()> {
-    changed(rt, b"11, the mark's first byte:\n", 38, 0x42)?;
-    changed(rt, b"11, the mark's last byte:\n", 39, 0x41)?;
-    changed(rt, b"12, back distance one too far:\n", 24, 41)?;
-    changed(rt, b"12, back distance 0:\n", 24, 0)?;
-    changed(rt, b"12, one record too few:\n", 32, 1)?;
-    changed(rt, b"12, back distance huge:\n", 27, 255)?;
+    changed(rt, b"11, the mark's first byte:\n", SAMPLE, 38, 0x42)?;
+    changed(rt, b"11, the mark's last byte:\n", SAMPLE, 39, 0x41)?;
+    changed(rt, b"12, back distance one too far:\n", SAMPLE, 24, 41)?;
+    changed(rt, b"12, back distance 0:\n", SAMPLE, 24, 0)?;
+    changed(rt, b"12, one record too few:\n", SAMPLE, 32, 1)?;
+    changed(rt, b"12, back distance huge:\n", SAMPLE, 27, 255)?;
     let mut roll = SAMPLE;
     roll[24] = 52;
     roll[32] = 3;
@@ -104,31 +106,45 @@ fn list_rules(rt: &impl Print) -> io::Result<()> {
     rt.write_all(b"3, row room for one report of two:\n")?;
     let mut rows = [0u32; Row::WIDTH];
     show(rt, &SAMPLE, &mut rows)?;
-    changed(rt, b"4, P is 0:\n", 34, 0)?;
-    changed(rt, b"4, Q is 0:\n", 36, 0)
+    changed(rt, b"4, P is 0:\n", SAMPLE, 34, 0)?;
+    changed(rt, b"4, Q is 0:\n", SAMPLE, 36, 0)
 }
 
 // Rules of its reports.
 fn report_rules(rt: &impl Print) -> io::Result<()> {
-    changed(rt, b"5, no operations:\n", 8, 0)?;
-    changed(rt, b"5, 65538 operations of report 1:\n", 22, 1)?;
-    changed(rt, b"6, arrival before the reference:\n", 0, 99)?;
+    changed(rt, b"5, no operations:\n", SAMPLE, 8, 0)?;
+    changed(rt, b"5, 65538 operations of report 1:\n", SAMPLE, 22, 1)?;
+    changed(rt, b"6, arrival before the reference:\n", SAMPLE, 0, 99)?;
     changed(
         rt,
         b"6, arrival of report 1 before the reference:\n",
+        SAMPLE,
         12,
         99,
     )?;
-    changed(rt, b"7, deadline before the reference:\n", 4, 99)?;
+    changed(rt, b"7, deadline before the reference:\n", SAMPLE, 4, 99)?;
     changed(
         rt,
         b"7, deadline of report 1 before the reference:\n",
+        SAMPLE,
         16,
         99,
     )?;
-    changed(rt, b"8, report 1 arrives before report 0:\n", 0, 102)?;
-    changed(rt, b"9, five operations in four ticks:\n", 8, 5)?;
-    changed(rt, b"9, thirteen operations in twelve ticks:\n", 20, 11)
+    changed(
+        rt,
+        b"8, report 1 arrives before report 0:\n",
+        SAMPLE,
+        0,
+        102,
+    )?;
+    changed(rt, b"9, five operations in four ticks:\n", SAMPLE, 8, 5)?;
+    changed(
+        rt,
+        b"9, thirteen operations in twelve ticks:\n",
+        SAMPLE,
+        20,
+        11,
+    )
 }
 
 // Every shorter front of the sample: 10, then 11.
@@ -144,32 +160,25 @@ fn fronts(rt: &impl Print) -> io::Result<()> {
 fn put_last(roll: &mut [u8])
     requires { 40 ≤ length roll.old }
 {
-    let at = roll.len() - 40;
+    let at = roll.len() - SAMPLE.len();
     roll[at..].copy_from_slice(&SAMPLE);
 }
 
-// The longest input, with a preface that is never looked at.
+// The longest input and one with a byte more: the sample, with a preface that is never looked at.
 fn longest(rt: &impl Print) -> io::Result<()> {
-    let mut roll = [0xffu8; Program::INPUT];
-    put_last(&mut roll);
-    named(rt, b"0, 65536 bytes:\n", &roll)
-}
-
-// The same with one byte more.
-fn too_long(rt: &impl Print) -> io::Result<()> {
     let mut roll = [0xffu8; Program::INPUT + 1];
     put_last(&mut roll);
+    named(rt, b"0, 65536 bytes:\n", &roll[1..])?;
     named(rt, b"14, 65537 bytes:\n", &roll)
 }
 
 fn main(rt: HostRuntime) -> io::Result<()> {
     named(&rt, b"0, the sample:\n", &SAMPLE)?;
-    changed(&rt, b"0, one more operation of report 0:\n", 8, 3)?;
+    changed(&rt, b"0, one more operation of report 0:\n", SAMPLE, 8, 3)?;
     file_rules(&rt)?;
     list_rules(&rt)?;
     report_rules(&rt)?;
     longest(&rt)?;
-    too_long(&rt)?;
     rt.write_all(b"every shorter front of the sample:\n")?;
     fronts(&rt)?;
     floors(&rt)
