@@ -1,6 +1,6 @@
--- A list that is filled from a place on: what is put there, and its bound.
+-- A list that is filled from a place on: what stands at its front then.
 -- Assumes nothing.
-use Rattle.std.proofs.Common.{◌≡◌, ℕ, ◌+◌, ◌-◌, ◌≤◌, List, ◌++◌, length, take, drop, ap, ◌∙◌, arith, le_refl, drop_at, length-drop, length-take, length-take-le}
+use Rattle.std.proofs.Common.{◌≡◌, ℕ, ◌+◌, ◌≤◌, List, ◌++◌, length, take, drop, ap, ◌∙◌, le_refl, drop_at, length-take-le}
 use Rattle.std.proofs.lemmas.Slice.{take-put_mid_below}
 use borrow.Rule.Slice.PartMut.{put_mid, post_of}
 use lib.Seq.{take-add, take-append-le}
@@ -13,7 +13,3 @@ take-put_mid_more a k n xs ys within fits =
     let behind = drop_at (take a xs) (ys ++ rest) a (length-take-le a xs within) in
     take-add a n all ∙ ap (λ l. l ++ take n (drop a all)) (take-put_mid_below _ _ _ _ _ (le_refl _) within)
     ∙ ap (λ l. take a xs ++ l) (ap (take n) behind ∙ take-append-le n ys rest fits)
-
--- if what is got into the rest of a buffer, from n on, is within that rest, it is within the buffer
-pub rest_within : (n more : ℕ) (buffer rest : List ℕ) → n ≤ length buffer → length rest ≡ length (take (length buffer - n) (drop n buffer)) → more ≤ length rest → n + more ≤ length buffer
-rest_within n more buffer rest h e l = omega (arith, length-take (length buffer - n) (drop n buffer), length-drop n buffer)

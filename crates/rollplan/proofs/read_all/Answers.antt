@@ -9,5 +9,5 @@ pub loop-n-preserved : goal.loop-n-preserved
 loop-n-preserved g c =
     let before = c.loop-n.invariant in
     let read = c.in_ok-more.ensures in
-    let more = take-put_mid_more _ _ _ _ _ before.1 read.bound in
+    let more = take-put_mid_more _ _ _ _ _ before.1 read.bound.0 in
     (search rules, search rules, subst (Consumes _ _) (sym more) (Consumes-trans _ _ _ _ _ before.2 read.bytes.0))
