@@ -23,6 +23,7 @@ const MESSAGE: usize = 300;
 // counts as failed, which a program that handles no signal does not meet. The count is kept here, since no method of std
 // fills a lent buffer and says how far it came where the input ends: read_exact fails there, read_to_end wants a Vec, and
 // io::copy bounds no count where the input's bytes are not known.
+#[tactic(auto, using(crate::proofs::Filling::reads_more))]
 fn read_all<R: Read>(input: &mut R, buf: &mut [u8]) -> io::Result<usize>
     ensures bound { IfOk result (λ n. n ≤ length buf.new) }
     ensures bytes { IfOk result (λ n. Consumes (R.remaining input.old) (R.remaining input.new) (take n buf.new)) }
