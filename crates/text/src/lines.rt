@@ -1,8 +1,8 @@
 // The lines of a plan, put at the front of a buffer; how many bytes they take comes back.
-ghost use Rattle.std.specs.Prelude.{◌≡◌, ◌+◌, ◌*◌, ◌≤◌, length};
+ghost use Rattle.std.specs.Prelude.{◌≡◌, ◌*◌, ◌≤◌, length};
 ghost use Rattle.answers.specs.Numbers.{width};
 ghost use Rattle.lists.specs.Puts.{Puts};
-ghost use Rattle.text.specs.Text.{first_line, row_line, row_lines, line_room, text_room};
+ghost use Rattle.text.specs.Text.{first_line, row_lines, line_room, text_room};
 
 use crate::put;
 use answers::Row;

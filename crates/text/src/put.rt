@@ -1,5 +1,5 @@
 // Puts text at the front of a buffer, and gives back how many bytes it takes.
-ghost use Rattle.std.specs.Prelude.{◌+◌, ◌≤◌, [], ◌∷◌, ◌++◌, length};
+ghost use Rattle.std.specs.Prelude.{◌≤◌, [], ◌∷◌, ◌++◌, length};
 ghost use Rattle.lists.specs.Puts.{Puts};
 ghost use Rattle.text.specs.Text.{decimal, line, line_room};
 
