@@ -2,32 +2,29 @@
 // what came back, and the buffer, whose 30 numbers are all 7 beforehand.
 #![tactic(auto)]
 
-use rules::{Floor, Roll};
+use answers::Reply;
+use fraction::Pace;
+use rules::{ReportList, Roll};
 use std::io;
 
-// The terms of most rows: the reference 0, and P/Q = 1/1.
-const EVEN: Roll = Roll {
-    reference: 0,
-    p: 1,
-    q: 1,
-};
-
-// The three lists of a row.
-#[derive(Clone, Copy)]
-struct Lists<'a> {
+// A list with its terms.
+fn list<'a>(
     arrivals: &'a [u32],
     deadlines: &'a [u32],
     operations: &'a [u32],
+    terms: Roll,
+) -> ReportList<'a> {
+    ReportList {
+        arrivals,
+        deadlines,
+        operations,
+        terms,
+    }
 }
 
-impl<'a> Lists<'a> {
-    fn new(arrivals: &'a [u32], deadlines: &'a [u32], operations: &'a [u32]) -> Lists<'a> {
-        Lists {
-            arrivals,
-            deadlines,
-            operations,
-        }
-    }
+// A list with the terms of most rows: the reference 0, and P/Q = 1/1.
+fn even<'a>(arrivals: &'a [u32], deadlines: &'a [u32], operations: &'a [u32]) -> ReportList<'a> {
+    list(arrivals, deadlines, operations, Roll::new(0, 1, 1))
 }
 
 // A list under its name: its numbers, or how many they are where they are many.
@@ -43,44 +40,26 @@ fn show_list(rt: &impl Print, name: &str, xs: &[u32]) -> io::Result<()> {
 }
 
 // What is handed in: the lists and the terms, and R and T where there is a floor.
-fn show_input(
-    rt: &impl Print,
-    lists: Lists<'_>,
-    terms: Roll,
-    floor: Option<(u32, u32)>,
-) -> io::Result<()> {
-    show_list(rt, "arrivals", lists.arrivals)?;
-    show_list(rt, "deadlines", lists.deadlines)?;
-    show_list(rt, "operations", lists.operations)?;
+fn show_input(rt: &impl Print, list: ReportList<'_>, floor: Option<Pace>) -> io::Result<()> {
+    show_list(rt, "arrivals", list.arrivals)?;
+    show_list(rt, "deadlines", list.deadlines)?;
+    show_list(rt, "operations", list.operations)?;
+    let terms = list.terms;
     println!(rt;
         "reference, P, Q: {} {} {}",
         terms.reference, terms.p, terms.q
     )?;
     match floor {
-        Some((r, t)) => println!(rt; "R, T: {r} {t}"),
+        Some(slowest) => println!(rt; "R, T: {} {}", slowest.ticks, slowest.operations),
         None => Ok(()),
     }
 }
 
 // One row of the table: what is handed in, what comes back, and the buffer. It has 30 numbers, more than any row needs.
-fn run(
-    rt: &impl Print,
-    lists: Lists<'_>,
-    terms: Roll,
-    floor: Option<(u32, u32)>,
-) -> io::Result<()> {
-    show_input(rt, lists, terms, floor)?;
-    let floor = floor.map_or(Floor::Absent, |(r, t)| Floor::Slowest(r, t));
+fn run(rt: &impl Print, list: ReportList<'_>, floor: Option<Pace>) -> io::Result<()> {
+    show_input(rt, list, floor)?;
     let mut buffer = [7u32; 30];
-    let answer = planner::plan(
-        lists.arrivals,
-        lists.deadlines,
-        lists.operations,
-        terms,
-        floor,
-        &mut buffer,
-    );
-    let reply = answers::in_numbers(answer);
+    let reply = Reply::from(planner::plan(list, floor, &mut buffer));
     println!(rt;
         "number, place, blocks: {} {} {}",
         reply.number, reply.place, reply.blocks
@@ -91,67 +70,63 @@ fn run(
 
 // The starred rows, in 01's order.
 fn starred(rt: &impl Print) -> io::Result<()> {
-    for lists in [
-        Lists::new(&[], &[], &[]),
-        Lists::new(&[0], &[10], &[4]),
-        Lists::new(&[0], &[4], &[4]),
-        Lists::new(&[0], &[4], &[5]),
-        Lists::new(&[0, 0], &[4, 12], &[2, 2]),
-        Lists::new(&[0, 6], &[10, 10], &[2, 2]),
-        Lists::new(&[0, 10], &[4, 14], &[2, 2]),
-        Lists::new(&[0, 4], &[4, 8], &[2, 2]),
-        Lists::new(&[0, 0], &[10, 5], &[3, 2]),
-        Lists::new(&[0, 0, 9, 9], &[6, 20, 20, 12], &[2, 2, 1, 1]),
-        Lists::new(&[0, 0, 12], &[4, 20, 16], &[2, 2, 2]),
+    for list in [
+        even(&[], &[], &[]),
+        even(&[0], &[10], &[4]),
+        even(&[0], &[4], &[4]),
+        even(&[0], &[4], &[5]),
+        even(&[0, 0], &[4, 12], &[2, 2]),
+        even(&[0, 6], &[10, 10], &[2, 2]),
+        even(&[0, 10], &[4, 14], &[2, 2]),
+        even(&[0, 4], &[4, 8], &[2, 2]),
+        even(&[0, 0], &[10, 5], &[3, 2]),
+        even(&[0, 0, 9, 9], &[6, 20, 20, 12], &[2, 2, 1, 1]),
+        even(&[0, 0, 12], &[4, 20, 16], &[2, 2, 2]),
     ] {
-        run(rt, lists, EVEN, None)?;
+        run(rt, list, None)?;
     }
     Ok(())
 }
 
 // The others, and the list with a wrapped reference.
 fn others(rt: &impl Print) -> io::Result<()> {
-    for (lists, terms) in [
-        (Lists::new(&[0], &[2], &[3]), Roll::new(0, 2, 3)),
-        (Lists::new(&[0], &[2], &[4]), Roll::new(0, 2, 3)),
-        (Lists::new(&[0], &[2147483647], &[1]), EVEN),
-        (Lists::new(&[0], &[2147483648], &[1]), EVEN),
-        (Lists::new(&[5, 4], &[20, 20], &[2, 2]), EVEN),
-        (Lists::new(&[5, 4], &[20, 20], &[2, 0]), EVEN),
-        (
-            Lists::new(&[4294967295, 3], &[9, 14], &[2, 2]),
+    for list in [
+        list(&[0], &[2], &[3], Roll::new(0, 2, 3)),
+        list(&[0], &[2], &[4], Roll::new(0, 2, 3)),
+        even(&[0], &[2147483647], &[1]),
+        even(&[0], &[2147483648], &[1]),
+        even(&[5, 4], &[20, 20], &[2, 2]),
+        even(&[5, 4], &[20, 20], &[2, 0]),
+        list(
+            &[4294967295, 3],
+            &[9, 14],
+            &[2, 2],
             Roll::new(4294967290, 1, 1),
         ),
     ] {
-        run(rt, lists, terms, None)?;
+        run(rt, list, None)?;
     }
     Ok(())
 }
 
 // Refusals that the table does not show: 1, 2, 3, 4, 6, and the edges of 5 and 9.
 fn refused(rt: &impl Print) -> io::Result<()> {
-    for (lists, terms) in [
-        (Lists::new(&[0, 0], &[4], &[2, 2]), EVEN),
-        (Lists::new(&[0], &[4], &[2, 2]), EVEN),
-        (
-            Lists::new(&[0; 1025], &[0; 1025], &[0; 1025]),
-            Roll::new(0, 0, 0),
-        ),
-        (
-            Lists::new(&[0; 1024], &[0; 1024], &[0; 1024]),
-            Roll::new(0, 0, 0),
-        ),
-        (Lists::new(&[0; 7], &[9; 7], &[1; 7]), Roll::new(0, 0, 0)),
-        (Lists::new(&[0], &[4], &[0]), Roll::new(0, 0, 1)),
-        (Lists::new(&[0], &[4], &[0]), Roll::new(0, 1, 0)),
-        (Lists::new(&[0], &[4], &[0]), Roll::new(0, 65536, 1)),
-        (Lists::new(&[0], &[4], &[0]), Roll::new(0, 1, 65536)),
-        (Lists::new(&[0, 0], &[90000, 90000], &[65535, 65536]), EVEN),
-        (Lists::new(&[3, 2], &[9, 9], &[1, 1]), Roll::new(3, 1, 1)),
-        (Lists::new(&[0, 8], &[9, 8], &[1, 1]), EVEN),
-        (Lists::new(&[0, 8], &[9, 3], &[1, 1]), EVEN),
+    for list in [
+        even(&[0, 0], &[4], &[2, 2]),
+        even(&[0], &[4], &[2, 2]),
+        list(&[0; 1025], &[0; 1025], &[0; 1025], Roll::new(0, 0, 0)),
+        list(&[0; 1024], &[0; 1024], &[0; 1024], Roll::new(0, 0, 0)),
+        list(&[0; 7], &[9; 7], &[1; 7], Roll::new(0, 0, 0)),
+        list(&[0], &[4], &[0], Roll::new(0, 0, 1)),
+        list(&[0], &[4], &[0], Roll::new(0, 1, 0)),
+        list(&[0], &[4], &[0], Roll::new(0, 65536, 1)),
+        list(&[0], &[4], &[0], Roll::new(0, 1, 65536)),
+        even(&[0, 0], &[90000, 90000], &[65535, 65536]),
+        list(&[3, 2], &[9, 9], &[1, 1], Roll::new(3, 1, 1)),
+        even(&[0, 8], &[9, 8], &[1, 1]),
+        even(&[0, 8], &[9, 3], &[1, 1]),
     ] {
-        run(rt, lists, terms, None)?;
+        run(rt, list, None)?;
     }
     Ok(())
 }
@@ -173,9 +148,11 @@ fn floors(rt: &impl Print) -> io::Result<()> {
     ] {
         run(
             rt,
-            Lists::new(&[0], &[10], &[operations]),
-            Roll::new(0, p, q),
-            Some((r, t)),
+            list(&[0], &[10], &[operations], Roll::new(0, p, q)),
+            Some(Pace {
+                ticks: r,
+                operations: t,
+            }),
         )?;
     }
     Ok(())

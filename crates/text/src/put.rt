@@ -3,14 +3,7 @@ ghost use Rattle.std.specs.Prelude.{◌≤◌, [], ◌∷◌, ◌++◌, length};
 ghost use Rattle.lists.specs.Puts.{Puts};
 ghost use Rattle.text.specs.Text.{decimal, line, line_room};
 
-pub fn put(text: &[u8], out: &mut [u8]) -> usize
-    requires { length text.now ≤ length out.old }
-    ensures { Puts out.old 0 text.now result out.new }
-{
-    let long = text.len();
-    out[..long].copy_from_slice(text);
-    long
-}
+use lists::put;
 
 // A number, in decimal: it has at most 20 digits.
 fn put_number(n: u64, out: &mut [u8]) -> usize
@@ -20,7 +13,7 @@ fn put_number(n: u64, out: &mut [u8]) -> usize
 {
     let mut digits = [0u8; 20];
     let k = io::decimal(n, &mut digits);
-    put(&digits[..k], out)
+    put(&digits[..k], out, 0)
 }
 
 // A number of a line, with the byte that ends it: a space where others follow it, and a line feed
