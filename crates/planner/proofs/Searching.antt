@@ -9,12 +9,10 @@ use Rattle.critical.proofs.Lines.{span, span_one, span_more, span_pos, sum_bound
 use Rattle.critical.proofs.Best.{Best, ◌≻◌, ◌≽◌, up, down, best_keep, best_take}
 use Rattle.critical.proofs.Search.{Stretch, Scan, floor, floor_in, floor_end, stretch_from, high, low, scan_first, scan_more, finds_rise, finds_fall, finds_whole}
 use Rattle.rules.specs.Leaves.{Fair}
-use Rattle.planner.specs.Inside.{Joins, FloorIs, MarkIs, KeptIn, KeptIs, Weighed, EndIs, StepIs}
+use Rattle.planner.specs.Inside.{mark, Joins, FloorIs, MarkIs, KeptIn, KeptIs, Weighed, EndIs, StepIs}
 use Rattle.planner.specs.declared.search.Mark.{Mark}
 use Rattle.planner.specs.declared.search.Kept.{Kept}
 use Rattle.planner.specs.declared.search.End.{End}
-use Rattle.planner.specs.declared.search.Step.{Step}
-use Rattle.planner.specs.declared.search.Step.TheVariants.{Ends, Goes}
 
 -- ---- whether two reports join, and the floor of a report
 module _ (xs ys : List ℕ) (j : ℕ) where
@@ -42,26 +40,26 @@ module _ (xs ys : List ℕ) (j : ℕ) where
 -- ---- marks
 -- a mark's pace
 abbrev pace_of : Mark → Fraction
-pace_of m = over m.ticks m.operations
+pace_of m = over m.pace.ticks m.pace.operations
 
 module _ (ℓ : Reports) (s p : ℕ) (some : 0 < ℓ.operations p) where
   mark_pace : (time : ℕ → ℕ) (m : Mark) → MarkIs ℓ s p time m → pace_of m ≡ over (time m.at - s) (span ℓ.operations p m.at)
   mark_pace time m i = ap₂ over i.ticks_are i.operations_are
 
-  mark_works : (time : ℕ → ℕ) (m : Mark) → MarkIs ℓ s p time m → p ≤ m.at → 0 < m.operations
+  mark_works : (time : ℕ → ℕ) (m : Mark) → MarkIs ℓ s p time m → p ≤ m.at → 0 < m.pace.operations
   mark_works time m i h = subst (λ (n : ℕ). 0 < n) (sym i.operations_are) (span_pos ℓ.operations p m.at some h)
 
   -- what a comparison of two marks says
   module _ (x y : ℕ → ℕ) (a b : Mark) (ia : MarkIs ℓ s p x a) (ib : MarkIs ℓ s p y b) (fa : p ≤ a.at) (fb : p ≤ b.at) where
-    is_below : ltb (a.ticks * b.operations) (b.ticks * a.operations) ≡ true → over (x a.at - s) (span ℓ.operations p a.at) ≺ over (y b.at - s) (span ℓ.operations p b.at)
+    is_below : ltb (a.pace.ticks * b.pace.operations) (b.pace.ticks * a.pace.operations) ≡ true → over (x a.at - s) (span ℓ.operations p a.at) ≺ over (y b.at - s) (span ℓ.operations p b.at)
     is_below e =
         rw (← mark_pace x a ia, ← mark_pace y b ib)
-        (over_≺ a.ticks a.operations b.ticks b.operations (mark_works x a ia fa) (mark_works y b ib fb) (ltb-true _ _ e))
+        (over_≺ a.pace.ticks a.pace.operations b.pace.ticks b.pace.operations (mark_works x a ia fa) (mark_works y b ib fb) (ltb-true _ _ e))
 
-    not_below : ltb (a.ticks * b.operations) (b.ticks * a.operations) ≡ false → over (y b.at - s) (span ℓ.operations p b.at) ≼ over (x a.at - s) (span ℓ.operations p a.at)
+    not_below : ltb (a.pace.ticks * b.pace.operations) (b.pace.ticks * a.pace.operations) ≡ false → over (y b.at - s) (span ℓ.operations p b.at) ≼ over (x a.at - s) (span ℓ.operations p a.at)
     not_below e =
         rw (← mark_pace x a ia, ← mark_pace y b ib)
-        (over_≽ a.ticks a.operations b.ticks b.operations (mark_works x a ia fa) (mark_works y b ib fb) (ltb-false _ _ e))
+        (over_≽ a.pace.ticks a.pace.operations b.pace.ticks b.pace.operations (mark_works x a ia fa) (mark_works y b ib fb) (ltb-false _ _ e))
 
   -- ---- report kept.next, with its marks
   module _ (kept : Kept) (hj lj : Mark) (wd : Weighed ℓ s p kept hj lj) where
@@ -92,7 +90,7 @@ module _ (ℓ : Reports) (s p : ℕ) (some : 0 < ℓ.operations p) where
     from_lj : p ≤ lj.at
     from_lj = omega (arith, from_j, wd.low_at)
 
-    pub ends_by_rise : ltb (kept.high.ticks * lj.operations) (lj.ticks * kept.high.operations) ≡ true → EndIs ℓ s p (record { last = kept.high.at; time = ℓ.deadline kept.high.at; operations = kept.high.operations })
+    pub ends_by_rise : ltb (kept.high.pace.ticks * lj.pace.operations) (lj.pace.ticks * kept.high.pace.operations) ≡ true → EndIs ℓ s p (record { last = kept.high.at; time = ℓ.deadline kept.high.at; operations = kept.high.pace.operations })
     ends_by_rise e = record {
       k = wd.k;
       stretch = ki.stretch;
@@ -103,7 +101,7 @@ module _ (ℓ : Reports) (s p : ℕ) (some : 0 < ℓ.operations p) where
           (subst (λ (i : ℕ). high ℓ s p kept.high.at ≺ low ℓ s p wd.k i) wd.low_at (is_below ℓ.deadline (floor ℓ wd.k) kept.high lj ki.high_is wd.low_is from_h from_lj e));
     }
 
-    pub ends_by_fall : ltb (hj.ticks * kept.low.operations) (kept.low.ticks * hj.operations) ≡ true → EndIs ℓ s p (record { last = kept.low.at; time = ℓ.arrival (kept.low.at + 1); operations = kept.low.operations })
+    pub ends_by_fall : ltb (hj.pace.ticks * kept.low.pace.operations) (kept.low.pace.ticks * hj.pace.operations) ≡ true → EndIs ℓ s p (record { last = kept.low.at; time = ℓ.arrival (kept.low.at + 1); operations = kept.low.pace.operations })
     ends_by_fall e = rw (add-one kept.low.at) (record {
       k = wd.k;
       stretch = ki.stretch;
@@ -115,7 +113,7 @@ module _ (ℓ : Reports) (s p : ℕ) (some : 0 < ℓ.operations p) where
     })
 
     -- the last of the best, after the choice that the code makes
-    next_high : (b : Bool) → ltb (kept.high.ticks * hj.operations) (hj.ticks * kept.high.operations) ≡ b → Best ◌≺◌ ◌≼◌ (high ℓ s p) p (suc kept.next) (cond b kept.high hj).at
+    next_high : (b : Bool) → ltb (kept.high.pace.ticks * hj.pace.operations) (hj.pace.ticks * kept.high.pace.operations) ≡ b → Best ◌≺◌ ◌≼◌ (high ℓ s p) p (suc kept.next) (cond b kept.high hj).at
     next_high true e =
         best_keep up (high ℓ s p) p kept.next kept.high.at sc.least
         (subst (λ (i : ℕ). high ℓ s p kept.high.at ≺ high ℓ s p i) wd.high_at (is_below ℓ.deadline ℓ.deadline kept.high hj ki.high_is wd.high_is from_h from_hj e))
@@ -124,7 +122,7 @@ module _ (ℓ : Reports) (s p : ℕ) (some : 0 < ℓ.operations p) where
         (best_take up (high ℓ s p) p kept.next kept.high.at sc.least
         (subst (λ (i : ℕ). high ℓ s p i ≼ high ℓ s p kept.high.at) wd.high_at (not_below ℓ.deadline ℓ.deadline kept.high hj ki.high_is wd.high_is from_h from_hj e)))
 
-    next_low : (b : Bool) → ltb (lj.ticks * kept.low.operations) (kept.low.ticks * lj.operations) ≡ b → Best ◌≻◌ ◌≽◌ (low ℓ s p wd.k) p (suc kept.next) (cond b kept.low lj).at
+    next_low : (b : Bool) → ltb (lj.pace.ticks * kept.low.pace.operations) (kept.low.pace.ticks * lj.pace.operations) ≡ b → Best ◌≻◌ ◌≽◌ (low ℓ s p wd.k) p (suc kept.next) (cond b kept.low lj).at
     next_low true e =
         best_keep down (low ℓ s p wd.k) p kept.next kept.low.at sc.greatest
         (subst (λ (i : ℕ). low ℓ s p wd.k i ≺ low ℓ s p wd.k kept.low.at) wd.low_at (is_below (floor ℓ wd.k) (floor ℓ wd.k) lj kept.low wd.low_is ki.low_is from_lj from_l e))
@@ -138,19 +136,19 @@ module _ (ℓ : Reports) (s p : ℕ) (some : 0 < ℓ.operations p) where
     either time false m n i o = o
 
     abbrev keep_high : Bool
-    keep_high = ltb (kept.high.ticks * hj.operations) (hj.ticks * kept.high.operations)
+    keep_high = ltb (kept.high.pace.ticks * hj.pace.operations) (hj.pace.ticks * kept.high.pace.operations)
 
     abbrev keep_low : Bool
-    keep_low = ltb (lj.ticks * kept.low.operations) (kept.low.ticks * lj.operations)
+    keep_low = ltb (lj.pace.ticks * kept.low.pace.operations) (kept.low.pace.ticks * lj.pace.operations)
 
     pub goes_on :
-        ltb (kept.high.ticks * lj.operations) (lj.ticks * kept.high.operations) ≡ false →
-        ltb (hj.ticks * kept.low.operations) (kept.low.ticks * hj.operations) ≡ false →
+        ltb (kept.high.pace.ticks * lj.pace.operations) (lj.pace.ticks * kept.high.pace.operations) ≡ false →
+        ltb (hj.pace.ticks * kept.low.pace.operations) (kept.low.pace.ticks * hj.pace.operations) ≡ false →
         KeptIs ℓ s p (record {
           next = kept.next + 1;
-          sum = hj.operations;
-          high = cond (ltb (kept.high.ticks * hj.operations) (hj.ticks * kept.high.operations)) kept.high hj;
-          low = cond (ltb (lj.ticks * kept.low.operations) (kept.low.ticks * lj.operations)) kept.low lj;
+          sum = hj.pace.operations;
+          high = cond (ltb (kept.high.pace.ticks * hj.pace.operations) (hj.pace.ticks * kept.high.pace.operations)) kept.high hj;
+          low = cond (ltb (lj.pace.ticks * kept.low.pace.operations) (kept.low.pace.ticks * lj.pace.operations)) kept.low lj;
         })
     goes_on x y = rw (add-one kept.next) (record {
       k = wd.k;
@@ -172,12 +170,19 @@ module _ (ℓ : Reports) (s p : ℕ) (some : 0 < ℓ.operations p) where
 
     -- the same for the marks that the code has chosen
     pub goes_on_with :
-        (b₁ b₂ : Bool) (h' l' : Mark) →
-        ltb (kept.high.ticks * lj.operations) (lj.ticks * kept.high.operations) ≡ false →
-        ltb (hj.ticks * kept.low.operations) (kept.low.ticks * hj.operations) ≡ false →
-        b₁ ≡ keep_high → b₂ ≡ keep_low → h' ≡ cond b₁ kept.high hj → l' ≡ cond b₂ kept.low lj →
-        KeptIs ℓ s p (record { next = kept.next + 1; sum = hj.operations; high = h'; low = l' })
-    goes_on_with b₁ b₂ h' l' x y e₁ e₂ f g = rw (f, g, e₁, e₂) (goes_on x y)
+        (h' l' : Mark) →
+        ltb (kept.high.pace.ticks * lj.pace.operations) (lj.pace.ticks * kept.high.pace.operations) ≡ false →
+        ltb (hj.pace.ticks * kept.low.pace.operations) (kept.low.pace.ticks * hj.pace.operations) ≡ false →
+        h' ≡ cond keep_high kept.high hj → l' ≡ cond keep_low kept.low lj →
+        KeptIs ℓ s p (record { next = kept.next + 1; sum = hj.pace.operations; high = h'; low = l' })
+    goes_on_with h' l' x y f g = rw (f, g) (goes_on x y)
+
+-- the mark that a choice by `if` leaves
+pub keeps : {b : Bool} {m h : Mark} (n : Mark) → b ≡ true → h ≡ m → h ≡ cond b m n
+keeps n e f = rw e f
+
+pub takes : {b : Bool} {n h : Mark} (m : Mark) → b ≡ false → h ≡ n → h ≡ cond b m n
+takes m e f = rw e f
 
 -- ---- the stretch, seen from the lists
 module _ (xs ys ws : List ℕ) (fair : Fair xs ys ws) where
@@ -243,8 +248,8 @@ module _ (xs ys ws : List ℕ) (fair : Fair xs ys ws) where
     pub weighed :
         (ks : KeptIs ℓ s p kept) → Joins xs ys (kept.next - 1) → (hj lj : Mark) (fl sum : ℕ) →
         sum ≡ kept.sum + ℓ.operations kept.next → FloorIs xs ys kept.next fl →
-        (hj.at ≡ kept.next) × (hj.ticks ≡ ℓ.deadline kept.next - s) × (hj.operations ≡ sum) →
-        (lj.at ≡ kept.next) × (lj.ticks ≡ fl - s) × (lj.operations ≡ sum) →
+        hj ≡ mark kept.next (ℓ.deadline kept.next) s sum →
+        lj ≡ mark kept.next fl s sum →
         Weighed ℓ s p kept hj lj
     weighed ks m hj lj fl sum e f h l =
         let k : ℕ = ks.k in
@@ -252,15 +257,15 @@ module _ (xs ys ws : List ℕ) (fair : Fair xs ys ws) where
         let on : kept.next ≤ k = still k ki m in
         let from : p ≤ kept.next = omega (arith, ki.scan.least.from, ki.scan.least.before) in
         let total : sum ≡ span ℓ.operations p kept.next = e ∙ ap (λ (x : ℕ). x + ℓ.operations kept.next) ki.sum_is ∙ joined_sum k ki in
-        record {
+        rw (h, l) (record {
           k = k;
           kept_in = ki;
           on = on;
-          high_at = h.0;
-          low_at = l.0;
-          high_is = record { ticks_are = h.1 ∙ ap (λ (i : ℕ). ℓ.deadline i - s) (sym h.0); operations_are = h.2 ∙ total ∙ ap (span ℓ.operations p) (sym h.0) };
-          low_is = record { ticks_are = l.1 ∙ ap (λ (x : ℕ). x - s) (floor_is p k kept.next fl ki.stretch from on f) ∙ ap (λ (i : ℕ). floor ℓ k i - s) (sym l.0); operations_are = l.2 ∙ total ∙ ap (span ℓ.operations p) (sym l.0) };
-        }
+          high_at = refl;
+          low_at = refl;
+          high_is = record { ticks_are = refl; operations_are = total };
+          low_is = record { ticks_are = ap (λ (x : ℕ). x - s) (floor_is p k kept.next fl ki.stretch from on f); operations_are = total };
+        })
       where
         joined_sum : (k : ℕ) → KeptIn ℓ s p k kept → span ℓ.operations p (kept.next - 1) + ℓ.operations kept.next ≡ span ℓ.operations p kept.next
         joined_sum k ki =
@@ -270,20 +275,20 @@ module _ (xs ys ws : List ℕ) (fair : Fair xs ys ws) where
   -- the search begins
   pub begins_kept :
       (s p : ℕ) (hj lj : Mark) (fl sum : ℕ) → p < length xs → sum ≡ ℓ.operations p → FloorIs xs ys p fl →
-      (hj.at ≡ p) × (hj.ticks ≡ ℓ.deadline p - s) × (hj.operations ≡ sum) →
-      (lj.at ≡ p) × (lj.ticks ≡ fl - s) × (lj.operations ≡ sum) →
+      hj ≡ mark p (ℓ.deadline p) s sum →
+      lj ≡ mark p fl s sum →
       KeptIs ℓ s p (record { next = p + 1; sum = sum; high = hj; low = lj })
   begins_kept s p hj lj fl sum on e f h l =
       let st = stretch_from ℓ p on in
       let k : ℕ = st.0 in
       let total : sum ≡ span ℓ.operations p p = e ∙ sym (span_one ℓ.operations p) in
-      rw (add-one p) (record {
+      rw (add-one p, h, l) (record {
         k = k;
         kept_in = record {
           stretch = st.1;
-          scan = subst (λ (i : ℕ). Scan ℓ s p k (suc p) i lj.at) (sym h.0) (subst (λ (i : ℕ). Scan ℓ s p k (suc p) p i) (sym l.0) (scan_first ℓ s p k st.1));
-          high_is = record { ticks_are = h.1 ∙ ap (λ (i : ℕ). ℓ.deadline i - s) (sym h.0); operations_are = h.2 ∙ total ∙ ap (span ℓ.operations p) (sym h.0) };
-          low_is = record { ticks_are = l.1 ∙ ap (λ (x : ℕ). x - s) (floor_is p k p fl st.1 (le_refl p) st.1.from f) ∙ ap (λ (i : ℕ). floor ℓ k i - s) (sym l.0); operations_are = l.2 ∙ total ∙ ap (span ℓ.operations p) (sym l.0) };
+          scan = scan_first ℓ s p k st.1;
+          high_is = record { ticks_are = refl; operations_are = total };
+          low_is = record { ticks_are = ap (λ (x : ℕ). x - s) (floor_is p k p fl st.1 (le_refl p) st.1.from f); operations_are = total };
           sum_is = total ∙ ap (span ℓ.operations p) before_next;
           upto = omega (arith, st.1.from);
         };
@@ -291,13 +296,3 @@ module _ (xs ys ws : List ℕ) (fair : Fair xs ys ws) where
     where
       before_next : p ≡ suc p - 1
       before_next = omega arith
-
--- ---- a step that is known to end the search, or to go on
-module _ (ℓ : Reports) (s p n : ℕ) (r : Step) (is : StepIs ℓ s p n r) where
-  pub step_ends : (e : End) → r ≡ Ends e → EndIs ℓ s p e
-  unfolding StepIs
-  step_ends e eq = subst (StepIs ℓ s p n) eq is
-
-  pub step_goes : (k : Kept) → r ≡ Goes k → KeptIs ℓ s p k × (k.next ≡ n + 1)
-  unfolding StepIs
-  step_goes k eq = subst (StepIs ℓ s p n) eq is

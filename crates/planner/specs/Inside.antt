@@ -1,6 +1,7 @@
 -- What the functions inside this crate ask of each other and tell each other. No promise of the entry point cites it.
 -- Assumes nothing.
 use Rattle.std.specs.Prelude.{◌≡◌, ℕ, suc, ◌+◌, ◌-◌, ◌*◌, ◌<◌, ◌≤◌, List, length, slice_index, slice_index_or}
+use Rattle.std.proofs.Common.{ControlFlow, Continue, Break}
 use Rattle.std.proofs.Math.Seq.{paste}
 use Rattle.fraction.specs.Fraction.{Fraction}
 use Rattle.critical.specs.Reports.{Reports, Positive, Plannable, FirstWithout}
@@ -16,8 +17,6 @@ use Rattle.rules.specs.declared.Roll.{Roll}
 use Rattle.planner.specs.declared.search.Mark.{Mark}
 use Rattle.planner.specs.declared.search.Kept.{Kept}
 use Rattle.planner.specs.declared.search.End.{End}
-use Rattle.planner.specs.declared.search.Step.{Step}
-use Rattle.planner.specs.declared.search.Step.TheVariants.{Ends, Goes}
 
 -- Where the pass at the fastest pace ends: at the first report without a plan, or behind the list.
 pub record PassEnds (ℓ : Reports) (fastest : Fraction) (r : ℕ) : Type 0 where
@@ -36,10 +35,14 @@ pub record FloorIs (arrivals deadlines : List ℕ) (j r : ℕ) : Type 0 where
   pub joined : Joins arrivals deadlines j → r ≡ slice_index arrivals (suc j)
   pub apart : (Joins arrivals deadlines j → ⊥) → r ≡ slice_index deadlines j
 
+-- The mark of a report and a time, nil where that time is before s.
+abbrev pub mark : (at time s operations : ℕ) → Mark
+mark at time s operations = record { at = at; pace = record { ticks = time - s; operations = operations } }
+
 -- A mark is the pace from s to a time of its report, over the operations from p on.
 pub record MarkIs (ℓ : Reports) (s p : ℕ) (time : ℕ → ℕ) (m : Mark) : Type 0 where
-  pub ticks_are : m.ticks ≡ time m.at - s
-  pub operations_are : m.operations ≡ span ℓ.operations p m.at
+  pub ticks_are : m.pace.ticks ≡ time m.at - s
+  pub operations_are : m.pace.operations ≡ span ℓ.operations p m.at
 
 -- What the search keeps, in a stretch that ends at k.
 pub record KeptIn (ℓ : Reports) (s p k : ℕ) (kept : Kept) : Type 0 where
@@ -74,9 +77,12 @@ pub record EndIs (ℓ : Reports) (s p : ℕ) (e : End) : Type 0 where
   pub found : (fastest : Fraction) → Ready ℓ fastest s p k → Found ℓ fastest k (row_of ℓ s p e.last e.time)
 
 -- What one report does to the search: it ends it, or it joins.
+abbrev pub Step : Type 0
+Step = ControlFlow End Kept
+
 unfoldable pub StepIs : Reports → ℕ → ℕ → ℕ → Step → Type 0
-StepIs ℓ s p next (Ends e) = EndIs ℓ s p e
-StepIs ℓ s p next (Goes kept) = KeptIs ℓ s p kept × (kept.next ≡ next + 1)
+StepIs ℓ s p next (Break e) = EndIs ℓ s p e
+StepIs ℓ s p next (Continue kept) = KeptIs ℓ s p kept × (kept.next ≡ next + 1)
 
 -- ---- the rows
 -- The buffer with the numbers of row k written: nothing else of it changes.

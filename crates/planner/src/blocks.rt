@@ -1,20 +1,13 @@
 // Block after block: the nested search over block starts and reports, and the rows.
-ghost use Rattle.std.specs.Prelude.{◌≡◌, ◌+◌, ◌*◌, ◌<◌, ◌≤◌, max, length};
+ghost use Rattle.std.specs.Prelude.{◌≡◌, ◌+◌, ◌*◌, ◌<◌, ◌≤◌, length};
 ghost use Rattle.answers.specs.Numbers.{width, numbers_of};
 ghost use Rattle.critical.specs.Reports.{list_of};
 ghost use Rattle.rules.specs.Leaves.{Fair};
 ghost use Rattle.planner.specs.Inside.{BlocksIn, put_row};
 
 use crate::search;
-use crate::search::Step;
 use answers::Row;
-
-// The later of two times.
-fn later(a: u32, b: u32) -> u32
-    ensures { result ≡ max a b }
-{
-    if a < b { b } else { a }
-}
+use std::ops::ControlFlow;
 
 // Writes row k of a buffer.
 fn put_row(rows: &mut [u32], k: usize, row: Row)
@@ -36,15 +29,12 @@ pub fn blocks(arrivals: &[u32], deadlines: &[u32], operations: &[u32], rows: &mu
     let mut first = 0;
     let mut ended: u32 = 0;
     while first < arrivals.len() {
-        let from = later(arrivals[first], ended);
+        let from = arrivals[first].max(ended);
         let mut kept = search::begin(arrivals, deadlines, operations, first, from);
         let end = 'search: loop {
-            let step = search::take(arrivals, deadlines, operations, first, from, kept);
-            match step {
-                Step::Ends(end) => break 'search end,
-                Step::Goes(next) => {
-                    kept = next;
-                }
+            match search::take(arrivals, deadlines, operations, first, from, kept) {
+                ControlFlow::Break(end) => break 'search end,
+                ControlFlow::Continue(next) => kept = next,
             }
         };
         let last = end.last;

@@ -15,11 +15,7 @@ fn finish(report: Report, terms: Roll, before: u64) -> u64
 {
     let arrived = (terms.q as u64) * (report.arrival as u64);
     let work = (report.operations as u64) * (terms.p as u64);
-    if arrived < before {
-        before + work
-    } else {
-        arrived + work
-    }
+    arrived.max(before) + work
 }
 
 // Q times a report's deadline.

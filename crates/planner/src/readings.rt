@@ -6,7 +6,7 @@ ghost use Rattle.rules.specs.Offsets.{offset};
 pub fn offset(reading: u32, reference: u32) -> u32
     ensures { result ≡ offset reference reading }
 {
-    std::num::wrapping_sub_u32(reading, reference)
+    reading.wrapping_sub(reference)
 }
 
 // The offsets of all readings, at the front of out.

@@ -1,18 +1,33 @@
 // The search for the next block (01, "Blocks"): report by report, with the last least high and the
 // last greatest low so far.
-ghost use Rattle.std.specs.Prelude.{◌≡◌, ◌+◌, ◌-◌, ◌*◌, ◌<◌, min, true, false, length, if◌then◌else◌, nat_lt};
+ghost use Rattle.std.specs.Prelude.{◌≡◌, ◌+◌, ◌-◌, ◌*◌, ◌<◌, true, false, length};
 ghost use Rattle.critical.specs.Reports.{list_of};
 ghost use Rattle.rules.specs.Leaves.{Fair};
-ghost use Rattle.planner.specs.Inside.{FloorIs, Joins, KeptIs, StepIs, Weighed};
+ghost use Rattle.planner.specs.Inside.{mark, FloorIs, Joins, KeptIs, StepIs, Weighed};
 
 use fraction::Pace;
+use std::ops::ControlFlow;
 
 // A high or a low: the report, and the pace from the block's start to a time of that report.
 #[derive(Clone, Copy)]
 pub struct Mark {
     pub at: usize,
-    pub ticks: u32,
-    pub operations: u32,
+    pub pace: Pace,
+}
+
+impl Mark {
+    // The mark of a report and a time: its pace from the block's start, nil where that time is past.
+    fn new(at: usize, time: u32, from: u32, operations: u32) -> Mark
+        ensures { result ≡ mark at time from operations }
+    {
+        Mark {
+            at,
+            pace: Pace {
+                ticks: time.saturating_sub(from),
+                operations,
+            },
+        }
+    }
 }
 
 // What the search keeps before report next: the operations so far, the last least high and the last
@@ -33,53 +48,8 @@ pub struct End {
     pub operations: u32,
 }
 
-// What one report does to the search: it ends it, or it joins.
-#[derive(Clone, Copy)]
-pub enum Step {
-    Ends(End),
-    Goes(Kept),
-}
-
-// The pace from the block's start to a time, nil where that time is past.
-fn pace_to(at: usize, time: u32, from: u32, operations: u32) -> Mark
-    ensures { (result.at ≡ at) × (result.ticks ≡ time - from) × (result.operations ≡ operations) }
-{
-    if time < from {
-        Mark {
-            at,
-            ticks: 0,
-            operations,
-        }
-    } else {
-        Mark {
-            at,
-            ticks: time - from,
-            operations,
-        }
-    }
-}
-
-// Whether one mark's pace is below another's.
-fn below(a: Mark, b: Mark) -> bool
-    ensures { result ≡ nat_lt (a.ticks * b.operations) (b.ticks * a.operations) }
-{
-    let one = Pace {
-        ticks: a.ticks,
-        operations: a.operations,
-    };
-    let other = Pace {
-        ticks: b.ticks,
-        operations: b.operations,
-    };
-    one.below(other)
-}
-
-// The mark that is kept, or the next one.
-fn choose(keep: bool, kept: Mark, next: Mark) -> Mark
-    ensures { result ≡ (if keep then kept else next) }
-{
-    if keep { kept } else { next }
-}
+// What one report does to the search: it ends it, or it joins, and the search goes on.
+pub type Step = ControlFlow<End, Kept>;
 
 // Whether report j and the next belong to one stretch.
 fn joins(arrivals: &[u32], deadlines: &[u32], j: usize) -> bool
@@ -88,18 +58,7 @@ fn joins(arrivals: &[u32], deadlines: &[u32], j: usize) -> bool
     ensures no { result ≡ false → Joins arrivals.now deadlines.now j → ⊥ }
 {
     let next = j + 1;
-    if next < arrivals.len() {
-        arrivals[next] <= deadlines[j]
-    } else {
-        false
-    }
-}
-
-// The sooner of two times.
-fn sooner(a: u32, b: u32) -> u32
-    ensures { result ≡ min a b }
-{
-    if b < a { b } else { a }
+    next < arrivals.len() && arrivals[next] <= deadlines[j]
 }
 
 // The least time at which report j may end: the next arrival where they join, else its deadline. That
@@ -111,7 +70,7 @@ fn floor(arrivals: &[u32], deadlines: &[u32], j: usize) -> u32
     let next = j + 1;
     let due = deadlines[j];
     if next < arrivals.len() {
-        sooner(arrivals[next], due)
+        arrivals[next].min(due)
     } else {
         due
     }
@@ -135,27 +94,27 @@ fn judge(
 {
     let least = kept.high;
     let greatest = kept.low;
-    if below(least, low) {
+    if least.pace.below(low.pace) {
         let last = least.at;
-        return Step::Ends(End {
+        return ControlFlow::Break(End {
             last,
             time: deadlines[last],
-            operations: least.operations,
+            operations: least.pace.operations,
         });
     }
-    if below(high, greatest) {
+    if high.pace.below(greatest.pace) {
         let last = greatest.at;
-        return Step::Ends(End {
+        return ControlFlow::Break(End {
             last,
             time: arrivals[last + 1],
-            operations: greatest.operations,
+            operations: greatest.pace.operations,
         });
     }
-    let next_high = choose(below(least, high), least, high);
-    let next_low = choose(below(low, greatest), greatest, low);
-    Step::Goes(Kept {
+    let next_high = if least.pace.below(high.pace) { least } else { high };
+    let next_low = if low.pace.below(greatest.pace) { greatest } else { low };
+    ControlFlow::Continue(Kept {
         next: kept.next + 1,
-        sum: high.operations,
+        sum: high.pace.operations,
         high: next_high,
         low: next_low,
     })
@@ -177,8 +136,8 @@ fn weigh(
 {
     let j = kept.next;
     let sum = kept.sum + operations[j];
-    let high = pace_to(j, deadlines[j], from, sum);
-    let low = pace_to(j, floor(arrivals, deadlines, j), from, sum);
+    let high = Mark::new(j, deadlines[j], from, sum);
+    let low = Mark::new(j, floor(arrivals, deadlines, j), from, sum);
     judge(
         arrivals, deadlines, operations, first, from, kept, high, low,
     )
@@ -201,7 +160,7 @@ pub fn take(
     if joins(arrivals, deadlines, last) {
         return weigh(arrivals, deadlines, operations, first, from, kept);
     }
-    Step::Ends(End {
+    ControlFlow::Break(End {
         last,
         time: deadlines[last],
         operations: kept.sum,
@@ -222,8 +181,8 @@ pub fn begin(
     ensures next { result.next ≡ first + 1 }
 {
     let sum = operations[first];
-    let high = pace_to(first, deadlines[first], from, sum);
-    let low = pace_to(first, floor(arrivals, deadlines, first), from, sum);
+    let high = Mark::new(first, deadlines[first], from, sum);
+    let low = Mark::new(first, floor(arrivals, deadlines, first), from, sum);
     Kept {
         next: first + 1,
         sum,

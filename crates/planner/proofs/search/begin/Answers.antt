@@ -6,4 +6,4 @@ use Rattle.planner.proofs.search.begin.Goals as goal
 pub returns-clause-kept_is : goal.returns-clause-kept_is
 returns-clause-kept_is c =
     let a = c.args in
-    begins_kept a.arrivals.now a.deadlines.now a.operations.now c.requires.fair a.from a.first c.pace_to-high.result c.pace_to-low.result c.floor.result _ c.requires.on refl c.floor.ensures c.pace_to-high.ensures c.pace_to-low.ensures
+    begins_kept a.arrivals.now a.deadlines.now a.operations.now c.requires.fair a.from a.first c.new-high.result c.new-low.result c.floor.result _ c.requires.on refl c.floor.ensures c.new-high.ensures c.new-low.ensures

@@ -5,8 +5,9 @@ use Rattle.rules.specs.Leaves.{Fair}
 use Rattle.planner.specs.Inside.{StepIs, Weighed}
 use Rattle.planner.specs.declared.search.Kept.{Kept}
 use Rattle.planner.specs.declared.search.Mark.{Mark}
-use Rattle.planner.proofs.Searching.{ends_by_rise, ends_by_fall, goes_on_with}
+use Rattle.planner.proofs.Searching.{ends_by_rise, ends_by_fall, goes_on_with, keeps, takes}
 use Rattle.planner.proofs.search.judge.Goals as goal
+use Rattle.planner.proofs.search.judge.Goals.{then-below-3, else-below-3, then-below-4, else-below-4}
 
 -- the block's first report works
 works : {arrivals deadlines operations : List ℕ} {from first : ℕ} {kept : Kept} {high low : Mark} →
@@ -30,8 +31,15 @@ pub returns : goal.returns
 unfolding StepIs
 returns c =
     let a = c.args in (
-      goes_on_with (list_of a.arrivals.now a.deadlines.now a.operations.now) a.from a.first (works c.requires.fair c.requires.weighed) a.kept a.high a.low c.requires.weighed
-          c.below-3.result c.below-4.result c.choose-next_high.result c.choose-next_low.result
-          (sym c.below.ensures ∙ c.if-below.false) (sym c.below-2.ensures ∙ c.if-below-2.false) c.below-3.ensures c.below-4.ensures c.choose-next_high.ensures c.choose-next_low.ensures,
+      goes_on_with (list_of a.arrivals.now a.deadlines.now a.operations.now) a.from a.first (works c.requires.fair c.requires.weighed) a.kept a.high a.low c.requires.weighed _ _
+          (sym c.below.ensures ∙ c.if-below.false) (sym c.below-2.ensures ∙ c.if-below-2.false)
+          (elim c.if-below-3.branch [
+            then-below-3 w ↦ keeps _ (sym c.below-3.ensures ∙ w.if-below-3.true) w.next_high-is |
+            else-below-3 w ↦ takes _ (sym c.below-3.ensures ∙ w.if-below-3.false) w.next_high-is
+          ])
+          (elim c.if-below-4.branch [
+            then-below-4 w ↦ keeps _ (sym c.below-4.ensures ∙ w.if-below-4.true) w.next_low-is |
+            else-below-4 w ↦ takes _ (sym c.below-4.ensures ∙ w.if-below-4.false) w.next_low-is
+          ]),
       refl,
     )

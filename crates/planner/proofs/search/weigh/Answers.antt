@@ -11,4 +11,4 @@ overflow_add-sum c =
 pub judge-requires-clause-weighed : goal.judge-requires-clause-weighed
 judge-requires-clause-weighed c =
     let a = c.args in
-    weighed a.arrivals.now a.deadlines.now a.operations.now c.requires.fair a.from a.first a.kept c.requires.kept c.requires.joined c.pace_to-high.result c.pace_to-low.result c.floor.result _ refl c.floor.ensures c.pace_to-high.ensures c.pace_to-low.ensures
+    weighed a.arrivals.now a.deadlines.now a.operations.now c.requires.fair a.from a.first a.kept c.requires.kept c.requires.joined c.new-high.result c.new-low.result c.floor.result _ refl c.floor.ensures c.new-high.ensures c.new-low.ensures
