@@ -1,10 +1,10 @@
 -- What the functions inside this crate ask of each other and tell each other. No promise of the entry point cites it.
 -- Assumes nothing.
-use Rattle.std.specs.Prelude.{◌≡◌, ℕ, suc, ◌+◌, ◌-◌, ◌*◌, ◌<◌, ◌≤◌, List, length, slice_index, slice_index_or}
+use Rattle.std.specs.Prelude.{◌≡◌, ℕ, suc, ◌+◌, ◌-◌, ◌*◌, ◌<◌, ◌≤◌, List, Option, IfSome, IfNone, length, slice_index, slice_index_or}
 use Rattle.std.proofs.Common.{ControlFlow, Continue, Break}
 use Rattle.std.proofs.Math.Seq.{paste}
 use Rattle.fraction.specs.Fraction.{Fraction}
-use Rattle.critical.specs.Reports.{Reports, Positive, Plannable, FirstWithout}
+use Rattle.critical.specs.Reports.{Reports, list_of, Positive, Plannable, FirstWithout}
 use Rattle.critical.specs.Rows.{Critical}
 use Rattle.critical.proofs.Lines.{span}
 use Rattle.critical.proofs.Room.{Roomy}
@@ -13,16 +13,25 @@ use Rattle.answers.specs.Numbers.{Answer, number_of, place_of, blocks_of, width}
 use Rattle.trials.specs.Rules.{Rule}
 use Rattle.planner.specs.Outcome.{row_at, Outcome}
 use Rattle.rules.specs.Offsets.{pace_of}
+use Rattle.rules.specs.declared.Report.{Report}
 use Rattle.rules.specs.declared.Roll.{Roll}
+use Rattle.planner.specs.declared.list.FairList.{FairList}
 use Rattle.planner.specs.declared.search.Mark.{Mark}
 use Rattle.planner.specs.declared.search.Kept.{Kept}
 use Rattle.planner.specs.declared.search.End.{End}
 
--- Where the pass at the fastest pace ends: at the first report without a plan, or behind the list.
-pub record PassEnds (ℓ : Reports) (fastest : Fraction) (r : ℕ) : Type 0 where
-  pub within : r ≤ ℓ.count
-  pub stops : r < ℓ.count → FirstWithout ℓ fastest r
-  pub passes : r ≡ ℓ.count → Plannable ℓ fastest
+-- The reports of a list that is in order.
+abbrev pub reports_in : FairList → Reports
+reports_in fair = list_of fair.list.arrivals.now fair.list.deadlines.now fair.list.operations.now
+
+-- Report i of it.
+abbrev pub report_in : FairList → ℕ → Report
+report_in fair i = record { arrival = (reports_in fair).arrival i; deadline = (reports_in fair).deadline i; operations = (reports_in fair).operations i }
+
+-- Where the pass at the fastest pace ends: at the first report without a plan, or nowhere where there is a plan for all.
+pub record PassEnds (ℓ : Reports) (fastest : Fraction) (r : Option ℕ) : Type 0 where
+  pub stops : IfSome r (λ i. FirstWithout ℓ fastest i)
+  pub passes : IfNone r (Plannable ℓ fastest)
 
 -- ---- the search
 -- Whether report j and the next belong to one stretch.

@@ -1,7 +1,7 @@
 -- A step that goes on keeps what the search keeps, and takes one report; one that ends the search has found the block's end, whose row is written.
 use Rattle.std.proofs.Common.{ℕ, ◌≡◌, ◌+◌, sym, refl, subst, arith, Continue, Break}
-use Rattle.critical.specs.Reports.{Reports, list_of}
-use Rattle.planner.specs.Inside.{StepIs, KeptIs, EndIs}
+use Rattle.critical.specs.Reports.{Reports}
+use Rattle.planner.specs.Inside.{reports_in, StepIs, KeptIs, EndIs}
 use Rattle.planner.specs.declared.search.End.{End}
 use Rattle.planner.specs.declared.search.Kept.{Kept}
 use Rattle.planner.proofs.Building.{Building, builds_from_nothing, builds_on, builds_all}
@@ -17,7 +17,7 @@ unfolding StepIs
 found n h = h
 
 pub loop-first-init : goal.loop-first-init
-loop-first-init c = let a = c.args in builds_from_nothing a.arrivals.now a.deadlines.now a.operations.now c.requires.fair a.rows.now c.requires.room
+loop-first-init c = builds_from_nothing c.args.fair c.args.rows.now c.requires
 
 pub search-smaller : goal.search-smaller
 search-smaller c =
@@ -30,12 +30,12 @@ search-preserved c = (kept _ c.in-Continue.ensures).0
 pub overflow_cast-row-in-loop-first : goal.overflow_cast-row-in-loop-first
 overflow_cast-row-in-loop-first c =
     let e = found _ c.in-Break.ensures in
-    omega (arith, e.on, e.stretch.on_list, c.requires.fair.few)
+    omega (arith, e.on, e.stretch.on_list, c.args.fair.fair.few)
 
 pub overflow_add-first : goal.overflow_add-first
 overflow_add-first c =
     let e = found _ c.in-Break.ensures in
-    omega (arith, e.on, e.stretch.on_list, c.requires.fair.few)
+    omega (arith, e.on, e.stretch.on_list, c.args.fair.fair.few)
 
 pub loop-first-smaller : goal.loop-first-smaller
 loop-first-smaller c = omega (arith, (found _ c.in-Break.ensures).from, c.loop-first-test.true)
@@ -45,8 +45,8 @@ loop-first-preserved c =
     let a = c.args in
     let l = c.loop-first in
     let e = c.in-Break.end in
-    subst (Building (list_of a.arrivals.now a.deadlines.now a.operations.now) a.rows.now (l.count + 1) (e.last + 1) e.time) (sym c.put_row.ensures)
-    (builds_on a.arrivals.now a.deadlines.now a.operations.now c.requires.fair a.rows.now c.requires.room l.count l.first l.ended _ l.rows l.invariant e (found _ c.in-Break.ensures) c.max-from.ensures c.loop-first-test.true)
+    subst (Building (reports_in a.fair) a.rows.now (l.count + 1) (e.last + 1) e.time) (sym c.put_row.ensures)
+    (builds_on a.fair a.rows.now c.requires l.count l.first l.ended _ l.rows l.invariant e (found _ c.in-Break.ensures) c.max-from.ensures c.loop-first-test.true)
 
 pub returns : goal.returns
-returns c = let a = c.args in builds_all a.arrivals.now a.deadlines.now a.operations.now c.requires.fair a.rows.now c.requires.room _ _ _ _ c.loop-first.invariant c.loop-first-test.false
+returns c = let a = c.args in builds_all a.fair a.rows.now c.requires _ _ _ _ c.loop-first.invariant c.loop-first-test.false
