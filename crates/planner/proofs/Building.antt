@@ -29,7 +29,7 @@ pub record Building (ℓ : Reports) (before : List ℕ) (count first ended : ℕ
 
 module _ (fair : FairList) (before : List ℕ) (room : width * length fair.list.arrivals.now ≤ length before) where
   abbrev ℓ : Reports
-  ℓ = reports_in fair
+  ℓ = reports_in fair.list
 
   abbrev xs : List ℕ
   xs = fair.list.arrivals.now

@@ -27,7 +27,7 @@ pace_of m = over m.pace.ticks m.pace.operations
 
 module _ (block : Search) where
   abbrev ℓ : Reports
-  ℓ = reports_in block.fair
+  ℓ = reports_in block.fair.list
 
   abbrev xs : List ℕ
   xs = block.fair.list.arrivals.now

@@ -53,13 +53,13 @@ bound a w p q d i ha hq hw hp hd = omega (arith, mul-le-mul hq ha, mul-le-mul hw
 
 -- before report i: done is Q times the finish of the report before at the fastest pace, it is small, and the pass holds at every report passed
 pub record Passing (fair : FairList) (i done : ℕ) : Type 0 where
-  pub finished : done ≡ through (reports_in fair) fair.list.terms.p fair.list.terms.q i
+  pub finished : done ≡ through (reports_in fair.list) fair.list.terms.p fair.list.terms.q i
   pub small : done ≤ 140735340806145 + i * 4294836225
-  pub timely : TimelyTo (reports_in fair) (over fair.list.terms.p fair.list.terms.q) i
+  pub timely : TimelyTo (reports_in fair.list) (over fair.list.terms.p fair.list.terms.q) i
 
 module _ (fair : FairList) where
   abbrev ℓ : Reports
-  ℓ = reports_in fair
+  ℓ = reports_in fair.list
 
   abbrev P : ℕ
   P = fair.list.terms.p
@@ -72,7 +72,7 @@ module _ (fair : FairList) where
   pass_begins = record { finished = refl; small = omega arith; timely = λ i h. absurd (not-suc-le-zero h) }
 
   -- one report more, from what the code computes: its finish and when it is due
-  module _ (i done finish due : ℕ) (so_far : Passing fair i done) (report : Report) (is : report ≡ report_in fair i) (finish_is : finish ≡ max (Q * report.arrival) done + report.operations * P) (due_is : due ≡ Q * report.deadline) where
+  module _ (i done finish due : ℕ) (so_far : Passing fair i done) (report : Report) (is : report ≡ report_in fair.list i) (finish_is : finish ≡ max (Q * report.arrival) done + report.operations * P) (due_is : due ≡ Q * report.deadline) where
     computed : finish ≡ max (Q * ℓ.arrival i) done + ℓ.operations i * P
     computed = finish_is ∙ ap (λ (r : Report). max (Q * r.arrival) done + r.operations * P) is
 

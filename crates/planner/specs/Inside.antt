@@ -12,21 +12,26 @@ use Rattle.critical.proofs.Search.{Stretch, Scan, Found, Ready, floor, row_of}
 use Rattle.answers.specs.Numbers.{Answer, number_of, place_of, blocks_of, width}
 use Rattle.trials.specs.Rules.{Rule}
 use Rattle.planner.specs.Outcome.{row_at, Outcome}
-use Rattle.rules.specs.Offsets.{pace_of}
+use Rattle.rules.specs.Offsets.{offsets_of, pace_of}
 use Rattle.rules.specs.declared.Report.{Report}
+use Rattle.rules.specs.declared.ReportList.{ReportList}
 use Rattle.rules.specs.declared.Roll.{Roll}
-use Rattle.planner.specs.declared.list.FairList.{FairList}
 use Rattle.planner.specs.declared.search.Mark.{Mark}
 use Rattle.planner.specs.declared.search.Kept.{Kept}
 use Rattle.planner.specs.declared.search.End.{End}
 
--- The reports of a list that is in order.
-abbrev pub reports_in : FairList → Reports
-reports_in fair = list_of fair.list.arrivals.now fair.list.deadlines.now fair.list.operations.now
+-- ---- what a list holds
+-- The reports of a list of offsets.
+abbrev pub reports_in : ReportList → Reports
+reports_in list = list_of list.arrivals.now list.deadlines.now list.operations.now
 
--- Report i of it.
-abbrev pub report_in : FairList → ℕ → Report
-report_in fair i = record { arrival = (reports_in fair).arrival i; deadline = (reports_in fair).deadline i; operations = (reports_in fair).operations i }
+-- Those of a list of readings, by their offsets.
+abbrev pub offsets_in : ReportList → Reports
+offsets_in list = offsets_of list.terms.reference list.arrivals.now list.deadlines.now list.operations.now
+
+-- Report i of a list of offsets.
+abbrev pub report_in : ReportList → ℕ → Report
+report_in list i = record { arrival = (reports_in list).arrival i; deadline = (reports_in list).deadline i; operations = (reports_in list).operations i }
 
 -- Where the pass at the fastest pace ends: at the first report without a plan, or nowhere where there is a plan for all.
 pub record PassEnds (ℓ : Reports) (fastest : Fraction) (r : Option ℕ) : Type 0 where

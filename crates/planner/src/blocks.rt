@@ -21,7 +21,7 @@ fn put_row(rows: &mut [u32], k: usize, row: Row)
 // Finds the blocks of the list, writes their rows and returns how many there are.
 pub fn blocks(fair: FairList<'_>, rows: &mut [u32]) -> usize
     requires { width * length fair.list.arrivals.now ≤ length rows.old }
-    ensures { BlocksIn (reports_in fair.entry) rows.old result rows.new }
+    ensures { BlocksIn (reports_in fair.entry.list) rows.old result rows.new }
 {
     let mut count = 0;
     let mut first = 0;

@@ -2,9 +2,9 @@
 // rule, the search for its fault, and what it is given for.
 ghost use Rattle.std.specs.Prelude.{Ok};
 ghost use Rattle.trials.specs.Tries.{After};
-ghost use Rattle.critical.specs.Reports.{list_of};
 ghost use Rattle.rules.specs.Rules.{form_rules};
 ghost use Rattle.rules.specs.Leaves.{Even};
+ghost use Rattle.planner.specs.Inside.{reports_in};
 
 use answers::Fault;
 use rules::{Report, ReportList};
@@ -13,7 +13,7 @@ use trials::{Verdict, refuse_at};
 // Rules 5 to 8, of offsets and operations, each over the whole list before the next.
 pub fn form_rules(list: ReportList<'_>) -> Verdict
     requires { Even list.arrivals.now list.deadlines.now list.operations.now }
-    ensures { After (Ok tt) (form_rules (list_of list.entry.arrivals.now list.entry.deadlines.now list.entry.operations.now)) result }
+    ensures { After (Ok tt) (form_rules (reports_in list.entry)) result }
 {
     refuse_at(
         trials::first_outside(list.operations, 1, Report::OPERATIONS),

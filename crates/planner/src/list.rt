@@ -19,7 +19,7 @@ impl FairList<'_> {
     // Report i.
     pub fn report(&self, i: usize) -> Report
         requires { i < length self.now.list.arrivals.now }
-        ensures { result ≡ report_in self.now i }
+        ensures { result ≡ report_in self.now.list i }
     {
         let list = self.list;
         Report::new(list.arrivals[i], list.deadlines[i], list.operations[i])

@@ -26,7 +26,7 @@ fn due(report: Report, terms: Roll) -> u64
 
 // The first report without a plan, or none where there is a plan for all.
 pub fn first_without(fair: FairList<'_>) -> Option<usize>
-    ensures { PassEnds (reports_in fair.entry) (pace_of fair.entry.list.terms) result }
+    ensures { PassEnds (reports_in fair.entry.list) (pace_of fair.entry.list.terms) result }
 {
     let mut done: u64 = 0;
     for i in 0..fair.list.arrivals.len() {

@@ -1,7 +1,7 @@
 // The search for the next block (01, "Blocks"): report by report, with the last least high and the
 // last greatest low so far.
 ghost use Rattle.std.specs.Prelude.{◌≡◌, ◌+◌, ◌-◌, ◌<◌, length};
-ghost use Rattle.planner.specs.Inside.{mark, Joins};
+ghost use Rattle.planner.specs.Inside.{mark};
 
 use crate::list::FairList;
 use fraction::Pace;
@@ -65,8 +65,8 @@ impl Search<'_> {
     // Report kept.next with its marks: it ends the search where its low exceeds the least high or its
     // high lies below the greatest low; else it joins, and of equal marks the last is kept.
     fn judge(&self, kept: Kept, high: Mark, low: Mark) -> Step
-        requires { Weighed (reports_in self.now.fair) self.now.from self.now.first kept high low }
-        ensures { StepIs (reports_in self.now.fair) self.now.from self.now.first kept.next result }
+        requires { Weighed (reports_in self.now.fair.list) self.now.from self.now.first kept high low }
+        ensures { StepIs (reports_in self.now.fair.list) self.now.from self.now.first kept.next result }
     {
         let least = kept.high;
         let greatest = kept.low;
@@ -96,12 +96,19 @@ impl Search<'_> {
         })
     }
 
-    // Report kept.next, which is still of the stretch.
-    fn weigh(&self, kept: Kept) -> Step
-        requires kept { KeptIs (reports_in self.now.fair) self.now.from self.now.first kept }
-        requires joined { Joins self.now.fair.list.arrivals.now self.now.fair.list.deadlines.now (kept.next - 1) }
-        ensures { StepIs (reports_in self.now.fair) self.now.from self.now.first kept.next result }
+    // What report kept.next does to the search: the stretch's end ends it too.
+    pub fn take(&self, kept: Kept) -> Step
+        requires { KeptIs (reports_in self.now.fair.list) self.now.from self.now.first kept }
+        ensures { StepIs (reports_in self.now.fair.list) self.now.from self.now.first kept.next result }
     {
+        let last = kept.next - 1;
+        if !self.fair.joins(last) {
+            return ControlFlow::Break(End {
+                last,
+                time: self.fair.list.deadlines[last],
+                operations: kept.sum,
+            });
+        }
         let j = kept.next;
         let sum = kept.sum + self.fair.list.operations[j];
         let high = Mark::new(j, self.fair.list.deadlines[j], self.from, sum);
@@ -109,25 +116,9 @@ impl Search<'_> {
         self.judge(kept, high, low)
     }
 
-    // What the next report does to the search: the stretch's end ends it too.
-    pub fn take(&self, kept: Kept) -> Step
-        requires { KeptIs (reports_in self.now.fair) self.now.from self.now.first kept }
-        ensures { StepIs (reports_in self.now.fair) self.now.from self.now.first kept.next result }
-    {
-        let last = kept.next - 1;
-        if self.fair.joins(last) {
-            return self.weigh(kept);
-        }
-        ControlFlow::Break(End {
-            last,
-            time: self.fair.list.deadlines[last],
-            operations: kept.sum,
-        })
-    }
-
     // The search begins with the block's first report.
     pub fn begin(&self) -> Kept
-        ensures kept_is { KeptIs (reports_in self.now.fair) self.now.from self.now.first result }
+        ensures kept_is { KeptIs (reports_in self.now.fair.list) self.now.from self.now.first result }
         ensures next { result.next ≡ self.now.first + 1 }
     {
         let sum = self.fair.list.operations[self.first];

@@ -45,7 +45,7 @@ loop-first-preserved c =
     let a = c.args in
     let l = c.loop-first in
     let e = c.in-Break.end in
-    subst (Building (reports_in a.fair) a.rows.now (l.count + 1) (e.last + 1) e.time) (sym c.put_row.ensures)
+    subst (Building (reports_in a.fair.list) a.rows.now (l.count + 1) (e.last + 1) e.time) (sym c.put_row.ensures)
     (builds_on a.fair a.rows.now c.requires l.count l.first l.ended _ l.rows l.invariant e (found _ c.in-Break.ensures) c.max-from.ensures c.loop-first-test.true)
 
 pub returns : goal.returns
