@@ -14,7 +14,7 @@ pub fn offsets(readings: &[u32], reference: u32, out: &mut [u32])
     requires { length readings.now ≤ length out.old }
     ensures { take (length readings.now) out.new ≡ map (offset reference) readings.now }
 {
-    for i in 0..readings.len() {
-        out[i] = offset(readings[i], reference);
+    for (i, reading) in readings.iter().enumerate() {
+        out[i] = offset(*reading, reference);
     }
 }

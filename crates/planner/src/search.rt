@@ -86,8 +86,10 @@ impl Search<'_> {
                 operations: greatest.pace.operations,
             });
         }
-        let next_high = if least.pace.below(high.pace) { least } else { high };
-        let next_low = if low.pace.below(greatest.pace) { greatest } else { low };
+        let high_stays = least.pace.below(high.pace);
+        let low_stays = low.pace.below(greatest.pace);
+        let next_high = if high_stays { least } else { high };
+        let next_low = if low_stays { greatest } else { low };
         ControlFlow::Continue(Kept {
             next: kept.next + 1,
             sum: high.pace.operations,
@@ -121,11 +123,12 @@ impl Search<'_> {
         ensures kept_is { KeptIs (reports_in self.now.fair.list) self.now.from self.now.first result }
         ensures next { result.next ≡ self.now.first + 1 }
     {
-        let sum = self.fair.list.operations[self.first];
-        let high = Mark::new(self.first, self.fair.list.deadlines[self.first], self.from, sum);
-        let low = Mark::new(self.first, self.fair.floor(self.first), self.from, sum);
+        let first = self.first;
+        let sum = self.fair.list.operations[first];
+        let high = Mark::new(first, self.fair.list.deadlines[first], self.from, sum);
+        let low = Mark::new(first, self.fair.floor(first), self.from, sum);
         Kept {
-            next: self.first + 1,
+            next: first + 1,
             sum,
             high,
             low,

@@ -3,7 +3,7 @@ use Rattle.std.proofs.Common.{sym, refl, ◌∙◌}
 use Rattle.planner.specs.Inside.{StepIs}
 use Rattle.planner.proofs.Searching.{ends_by_rise, ends_by_fall, goes_on_with, keeps, takes}
 use Rattle.planner.proofs.search.Search.judge.Goals as goal
-use Rattle.planner.proofs.search.Search.judge.Goals.{then-below-3, else-below-3, then-below-4, else-below-4}
+use Rattle.planner.proofs.search.Search.judge.Goals.{then-high_stays, else-high_stays, then-low_stays, else-low_stays}
 
 pub returns-then-below : goal.returns-then-below
 unfolding StepIs
@@ -18,13 +18,13 @@ unfolding StepIs
 returns c =
     let a = c.args in (
       goes_on_with a.self.now a.kept a.high a.low c.requires _ _ (sym c.below.ensures ∙ c.if-below.false) (sym c.below-2.ensures ∙ c.if-below-2.false)
-          (elim c.if-below-3.branch [
-            then-below-3 w ↦ keeps _ (sym c.below-3.ensures ∙ w.if-below-3.true) w.next_high-is |
-            else-below-3 w ↦ takes _ (sym c.below-3.ensures ∙ w.if-below-3.false) w.next_high-is
+          (elim c.if-high_stays.branch [
+            | then-high_stays w ↦ keeps _ (sym c.below-high_stays.ensures ∙ w.if-high_stays.true) w.next_high-is
+            | else-high_stays w ↦ takes _ (sym c.below-high_stays.ensures ∙ w.if-high_stays.false) w.next_high-is
           ])
-          (elim c.if-below-4.branch [
-            then-below-4 w ↦ keeps _ (sym c.below-4.ensures ∙ w.if-below-4.true) w.next_low-is |
-            else-below-4 w ↦ takes _ (sym c.below-4.ensures ∙ w.if-below-4.false) w.next_low-is
+          (elim c.if-low_stays.branch [
+            | then-low_stays w ↦ keeps _ (sym c.below-low_stays.ensures ∙ w.if-low_stays.true) w.next_low-is
+            | else-low_stays w ↦ takes _ (sym c.below-low_stays.ensures ∙ w.if-low_stays.false) w.next_low-is
           ]),
       refl,
     )
