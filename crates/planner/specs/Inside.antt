@@ -94,7 +94,7 @@ pub record EndIs (ℓ : Reports) (s p : ℕ) (e : End) : Type 0 where
 abbrev pub Step : Type 0
 Step = ControlFlow End Kept
 
-unfoldable pub StepIs : Reports → ℕ → ℕ → ℕ → Step → Type 0
+abbrev pub StepIs : Reports → ℕ → ℕ → ℕ → Step → Type 0
 StepIs ℓ s p next (Break e) = EndIs ℓ s p e
 StepIs ℓ s p next (Continue kept) = KeptIs ℓ s p kept × (kept.next ≡ next + 1)
 
