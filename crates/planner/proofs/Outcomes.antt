@@ -1,19 +1,20 @@
--- Outcomes: a refusal stands whatever rules follow, a silence leaves it to them; rule 9 and the rows; and offsets for readings.
+-- Outcomes: a refusal stands whatever rules follow, a silence leaves it to them; rule 9 and the rows.
 -- Assumes nothing.
 use Rattle.std.proofs.Common.{◌≡◌, ℕ, zero, suc, ◌<◌, ◌≤◌, ◌⊎◌, List, [], ◌∷◌, ◌++◌, map, length, take, sym, refl, ap, ◌∙◌, subst, subst₂, inl, inr, ⊎_elim, arith}
-use Rattle.std.specs.Prelude.{Ok, Err, IsErr, IsErrAnd}
+use Rattle.std.specs.Prelude.{Option, Some, None, Ok, Err, IsErr, IsErrAnd}
 use Rattle.answers.specs.Numbers.{Answer, number, number_of, place_of, blocks_of}
 use Rattle.answers.specs.declared.Refusal.{Refusal}
+use Rattle.answers.specs.declared.Fault.TheVariants.{NoPlan}
 use Rattle.answers.proofs.Replies.{numbered}
 use Rattle.trials.specs.Rules.{Rule, Refused, Accepted, Refuses}
 use Rattle.trials.proofs.Passing.{Passed, both, first_part, last_part}
-use Rattle.trials.specs.Tries.{Verdict, After}
+use Rattle.trials.specs.Tries.{Verdict, refuse_at, RefuseAt, AfterIs, After}
 use Rattle.trials.proofs.Trying.{refused_first, refused_later, refuses_on}
 use Rattle.trials.proofs.Numbers.{refused_by_either}
 use Rattle.fraction.specs.Fraction.{Fraction, over}
 use Rattle.critical.specs.Reports.{Reports, list_of, Positive, Plannable, FirstWithout}
 use Rattle.critical.specs.Rows.{plan_of}
-use Rattle.critical.proofs.Theorems.{room_decides, not_both}
+use Rattle.critical.proofs.Theorems.{room_decides, plan_or_refusal, not_both}
 use Rattle.rules.specs.Offsets.{offset, offsets_of, pace_of}
 use Rattle.rules.specs.Rules.{plan_rule, report_rules}
 use Rattle.planner.specs.Outcome.{row_at, RefusedBy, Outcome, Written}
@@ -77,6 +78,15 @@ module _ (ℓ : Reports) (f : Fraction) (before : List ℕ) where
   rejects form i p w = goes_on form (plan_rule ℓ f ∷ []) 9 i 0 before p (refused (plan_rule ℓ f ∷ []) 9 i (omega arith) (inl (refl, w)))
 
 -- ---- rule 9 and the rows
+-- the pass decides rule 9
+nine_is : (ℓ : Reports) (f : Fraction) (r : Option ℕ) (v : Verdict) → v ≡ refuse_at r NoPlan → PassEnds ℓ f r → AfterIs (Ok tt) (plan_rule ℓ f ∷ []) v
+unfolding AfterIs Accepted Refused
+nine_is ℓ f (Some i) v e p = subst (λ (x : Verdict). AfterIs (Ok tt) (plan_rule ℓ f ∷ []) x) (sym e) (record { refused = inl (refl, p.stops) })
+nine_is ℓ f None v e p = subst (λ (x : Verdict). AfterIs (Ok tt) (plan_rule ℓ f ∷ []) x) (sym e) ((λ i w. not_both ℓ f i p.passes w), tt)
+
+pub nine : {ℓ : Reports} {f : Fraction} {r : Option ℕ} {v : Verdict} → PassEnds ℓ f r → RefuseAt r NoPlan v → After (Ok tt) (plan_rule ℓ f ∷ []) v
+nine {ℓ} {f} {r} {v} p e = record { is = nine_is ℓ f r v e.is p }
+
 module _ (ℓ : Reports) (terms : Roll) (paced : Paced terms) (before : List ℕ) where
   abbrev f : Fraction
   f = pace_of terms
@@ -85,42 +95,13 @@ module _ (ℓ : Reports) (terms : Roll) (paced : Paced terms) (before : List ℕ
   unfolding over
   positive = paced.p_some
 
-  pub refuses_nine : (i : ℕ) → PassEnds ℓ (pace_of terms) i → i < ℓ.count → Outcome (plan_rule ℓ (pace_of terms) ∷ []) ℓ (pace_of terms) before 9 i 0 before
-  unfolding Refused
-  refuses_nine i e h = refused ℓ f before (plan_rule ℓ f ∷ []) 9 i (omega arith) (inl (refl, e.stops h))
-
-  pub plans_all : (i blocks : ℕ) (after : List ℕ) → PassEnds ℓ (pace_of terms) i → ℓ.count ≤ i → BlocksIn ℓ before blocks after → Outcome (plan_rule ℓ (pace_of terms) ∷ []) ℓ (pace_of terms) before 0 0 blocks after
+  -- where rule 9 is not given there is a plan, and so the rows are those of the plan wanted
+  pub plans_all : (blocks : ℕ) (after : List ℕ) → Passed (plan_rule ℓ (pace_of terms) ∷ []) → BlocksIn ℓ before blocks after → Outcome (plan_rule ℓ (pace_of terms) ∷ []) ℓ (pace_of terms) before 0 0 blocks after
   unfolding Accepted
-  plans_all i blocks after e h b =
-      let plan : Plannable ℓ f = e.passes (omega (arith, e.within, h)) in
-      plans ℓ f before (plan_rule ℓ f ∷ []) blocks after (record { accepted = (λ place w. not_both ℓ f place plan w, tt) }) (record {
+  plans_all blocks after p b =
+      let plan : Plannable ℓ f = ⊎_elim (λ h. h) (λ w. absurd (p.accepted.0 w.0 w.1)) (plan_or_refusal ℓ f positive) in
+      plans ℓ f before (plan_rule ℓ f ∷ []) blocks after p (record {
         rows = b.rows f positive ((room_decides ℓ f positive).0 plan);
         as_long = b.as_long;
         behind = b.rest;
       })
-
--- ---- offsets for readings
--- the front of a scratch array is the list of offsets
-pub front : (g : ℕ → ℕ) (from to : List ℕ) (n : ℕ) → length from ≡ n → take (length from) to ≡ map g from → take n to ≡ map g from
-front g from to n e p = subst (λ (k : ℕ). take k to ≡ map g from) e p
-
-pub front_long : (g : ℕ → ℕ) (from to : List ℕ) (n : ℕ) → length from ≡ n → take (length from) to ≡ map g from → n ≡ length (take n to)
-front_long g from to n e p = sym (ap length (front g from to n e p) ∙ length-map g from ∙ e)
-
-pub sized_offsets : (g : ℕ → ℕ) (xs ys ws zs us before : List ℕ) → us ≡ map g xs → zs ≡ map g ys → Sized xs ys ws before → Sized us zs ws before
-sized_offsets g xs ys ws zs us before e e' s =
-    let a : length us ≡ length xs = ap length e ∙ length-map g xs in
-    let b : length zs ≡ length ys = ap length e' ∙ length-map g ys in
-    record {
-      even = record { deadlines_long = b ∙ s.even.deadlines_long ∙ sym a; operations_long = s.even.operations_long ∙ sym a };
-      few = omega (arith, a, s.few);
-      room = omega (arith, a, s.room);
-    }
-
-pub outcome_offsets :
-    (reference : ℕ) (xs ys ws zs us : List ℕ) (f : Fraction) (before : List ℕ) (number place blocks : ℕ) (after : List ℕ) →
-    us ≡ map (offset reference) xs → zs ≡ map (offset reference) ys →
-    Outcome (report_rules (list_of us zs ws) f) (list_of us zs ws) f before number place blocks after →
-    Outcome (report_rules (offsets_of reference xs ys ws) f) (offsets_of reference xs ys ws) f before number place blocks after
-outcome_offsets reference xs ys ws zs us f before number place blocks after e e' o =
-    subst₂ (λ (a b : List ℕ). Outcome (report_rules (list_of a b ws) f) (list_of a b ws) f before number place blocks after) e e' o

@@ -1,67 +1,67 @@
 -- The laws that the proofs of `search` cite: what one step of the code does to what the search keeps (critical's Search.antt), in the code's numbers.
 -- Assumes nothing.
-use Rattle.std.proofs.Common.{◌≡◌, ℕ, suc, ◌+◌, ◌-◌, ◌*◌, ◌<◌, ◌≤◌, min, Bool, true, false, cond, ltb, leb, List, length, get_or, sym, refl, ap, ◌∙◌, subst, ap₂, ⊎_elim, le_refl, le_of_suc-le-suc, eq-or-lt_of_le, add-one, arith, ltb-false, ltb-true, leb-false, leb-true}
+use Rattle.std.proofs.Common.{◌≡◌, ℕ, suc, ◌+◌, ◌-◌, ◌*◌, ◌<◌, ◌≤◌, Bool, true, false, cond, ltb, List, length, sym, refl, ap, ◌∙◌, subst, ap₂, ⊎_elim, le_refl, le_of_suc-le-suc, eq-or-lt_of_le, add-one, arith, ltb-false, ltb-true}
 use Rattle.fraction.specs.Fraction.{Fraction, ◌≼◌, ◌≺◌, over}
 use Rattle.fraction.proofs.Order.{over_≺, over_≽}
-use Rattle.fraction.proofs.Scale.{cases}
-use Rattle.critical.specs.Reports.{Reports, list_of}
+use Rattle.critical.specs.Reports.{Reports}
 use Rattle.critical.proofs.Lines.{span, span_one, span_more, span_pos, sum_bound}
 use Rattle.critical.proofs.Best.{Best, ◌≻◌, ◌≽◌, up, down, best_keep, best_take}
 use Rattle.critical.proofs.Search.{Stretch, Scan, floor, floor_in, floor_end, stretch_from, high, low, scan_first, scan_more, finds_rise, finds_fall, finds_whole}
-use Rattle.rules.specs.Leaves.{Fair}
-use Rattle.planner.specs.Inside.{Joins, FloorIs, MarkIs, KeptIn, KeptIs, Weighed, EndIs, StepIs}
+use Rattle.planner.specs.Inside.{reports_in, mark, Joins, FloorIs, MarkIs, KeptIn, KeptIs, Weighed, EndIs}
 use Rattle.planner.specs.declared.search.Mark.{Mark}
 use Rattle.planner.specs.declared.search.Kept.{Kept}
 use Rattle.planner.specs.declared.search.End.{End}
-use Rattle.planner.specs.declared.search.Step.{Step}
-use Rattle.planner.specs.declared.search.Step.TheVariants.{Ends, Goes}
+use Rattle.planner.specs.declared.search.Search.{Search}
 
--- ---- whether two reports join, and the floor of a report
-module _ (xs ys : List ℕ) (j : ℕ) where
-  pub joins_yes : j + 1 < length xs → leb (get_or xs (j + 1) 0) (get_or ys j 0) ≡ true → Joins xs ys j
-  joins_yes h e = record {
-    on = omega arith;
-    meets = subst (λ (k : ℕ). get_or xs k 0 ≤ get_or ys j 0) (add-one j) (leb-true _ _ e);
-  }
+-- the mark that a choice by `if` leaves
+pub keeps : {b : Bool} {m h : Mark} (n : Mark) → b ≡ true → h ≡ m → h ≡ cond b m n
+keeps n e f = rw e f
 
-  pub joins_late : leb (get_or xs (j + 1) 0) (get_or ys j 0) ≡ false → Joins xs ys j → ⊥
-  joins_late e k = omega (arith, subst (λ (k : ℕ). get_or ys j 0 < get_or xs k 0) (add-one j) (leb-false _ _ e), k.meets)
-
-  pub joins_end : length xs ≤ j + 1 → Joins xs ys j → ⊥
-  joins_end h k = omega (arith, k.on)
-
-  -- where there is a next report, the sooner of its arrival and the deadline
-  pub floor_least : (r : ℕ) → j + 1 < length xs → r ≡ min (get_or xs (j + 1) 0) (get_or ys j 0) → FloorIs xs ys j r
-  floor_least r l e =
-      let next : get_or xs (j + 1) 0 ≡ get_or xs (suc j) 0 = ap (λ (i : ℕ). get_or xs i 0) (add-one j) in
-      record {
-        joined = λ k. omega (arith, e, next, k.meets);
-        apart = λ n. cases (get_or ys j 0) (get_or xs (suc j) 0) (λ h. omega (arith, e, next, h)) (λ h. absurd (n (record { on = omega (arith, l); meets = h })));
-      }
+pub takes : {b : Bool} {n h : Mark} (m : Mark) → b ≡ false → h ≡ n → h ≡ cond b m n
+takes m e f = rw e f
 
 -- ---- marks
 -- a mark's pace
 abbrev pace_of : Mark → Fraction
-pace_of m = over m.ticks m.operations
+pace_of m = over m.pace.ticks m.pace.operations
 
-module _ (ℓ : Reports) (s p : ℕ) (some : 0 < ℓ.operations p) where
+module _ (block : Search) where
+  abbrev ℓ : Reports
+  ℓ = reports_in block.fair.list
+
+  abbrev xs : List ℕ
+  xs = block.fair.list.arrivals.now
+
+  abbrev ys : List ℕ
+  ys = block.fair.list.deadlines.now
+
+  abbrev s : ℕ
+  s = block.from
+
+  abbrev p : ℕ
+  p = block.first
+
+  -- the block's first report works
+  some : 0 < ℓ.operations p
+  some = block.fair.fair.some p block.on
+
   mark_pace : (time : ℕ → ℕ) (m : Mark) → MarkIs ℓ s p time m → pace_of m ≡ over (time m.at - s) (span ℓ.operations p m.at)
   mark_pace time m i = ap₂ over i.ticks_are i.operations_are
 
-  mark_works : (time : ℕ → ℕ) (m : Mark) → MarkIs ℓ s p time m → p ≤ m.at → 0 < m.operations
+  mark_works : (time : ℕ → ℕ) (m : Mark) → MarkIs ℓ s p time m → p ≤ m.at → 0 < m.pace.operations
   mark_works time m i h = subst (λ (n : ℕ). 0 < n) (sym i.operations_are) (span_pos ℓ.operations p m.at some h)
 
   -- what a comparison of two marks says
   module _ (x y : ℕ → ℕ) (a b : Mark) (ia : MarkIs ℓ s p x a) (ib : MarkIs ℓ s p y b) (fa : p ≤ a.at) (fb : p ≤ b.at) where
-    is_below : ltb (a.ticks * b.operations) (b.ticks * a.operations) ≡ true → over (x a.at - s) (span ℓ.operations p a.at) ≺ over (y b.at - s) (span ℓ.operations p b.at)
+    is_below : ltb (a.pace.ticks * b.pace.operations) (b.pace.ticks * a.pace.operations) ≡ true → over (x a.at - s) (span ℓ.operations p a.at) ≺ over (y b.at - s) (span ℓ.operations p b.at)
     is_below e =
         rw (← mark_pace x a ia, ← mark_pace y b ib)
-        (over_≺ a.ticks a.operations b.ticks b.operations (mark_works x a ia fa) (mark_works y b ib fb) (ltb-true _ _ e))
+        (over_≺ a.pace.ticks a.pace.operations b.pace.ticks b.pace.operations (mark_works x a ia fa) (mark_works y b ib fb) (ltb-true _ _ e))
 
-    not_below : ltb (a.ticks * b.operations) (b.ticks * a.operations) ≡ false → over (y b.at - s) (span ℓ.operations p b.at) ≼ over (x a.at - s) (span ℓ.operations p a.at)
+    not_below : ltb (a.pace.ticks * b.pace.operations) (b.pace.ticks * a.pace.operations) ≡ false → over (y b.at - s) (span ℓ.operations p b.at) ≼ over (x a.at - s) (span ℓ.operations p a.at)
     not_below e =
         rw (← mark_pace x a ia, ← mark_pace y b ib)
-        (over_≽ a.ticks a.operations b.ticks b.operations (mark_works x a ia fa) (mark_works y b ib fb) (ltb-false _ _ e))
+        (over_≽ a.pace.ticks a.pace.operations b.pace.ticks b.pace.operations (mark_works x a ia fa) (mark_works y b ib fb) (ltb-false _ _ e))
 
   -- ---- report kept.next, with its marks
   module _ (kept : Kept) (hj lj : Mark) (wd : Weighed ℓ s p kept hj lj) where
@@ -92,7 +92,7 @@ module _ (ℓ : Reports) (s p : ℕ) (some : 0 < ℓ.operations p) where
     from_lj : p ≤ lj.at
     from_lj = omega (arith, from_j, wd.low_at)
 
-    pub ends_by_rise : ltb (kept.high.ticks * lj.operations) (lj.ticks * kept.high.operations) ≡ true → EndIs ℓ s p (record { last = kept.high.at; time = ℓ.deadline kept.high.at; operations = kept.high.operations })
+    pub ends_by_rise : ltb (kept.high.pace.ticks * lj.pace.operations) (lj.pace.ticks * kept.high.pace.operations) ≡ true → EndIs ℓ s p (record { last = kept.high.at; time = ℓ.deadline kept.high.at; operations = kept.high.pace.operations })
     ends_by_rise e = record {
       k = wd.k;
       stretch = ki.stretch;
@@ -103,7 +103,7 @@ module _ (ℓ : Reports) (s p : ℕ) (some : 0 < ℓ.operations p) where
           (subst (λ (i : ℕ). high ℓ s p kept.high.at ≺ low ℓ s p wd.k i) wd.low_at (is_below ℓ.deadline (floor ℓ wd.k) kept.high lj ki.high_is wd.low_is from_h from_lj e));
     }
 
-    pub ends_by_fall : ltb (hj.ticks * kept.low.operations) (kept.low.ticks * hj.operations) ≡ true → EndIs ℓ s p (record { last = kept.low.at; time = ℓ.arrival (kept.low.at + 1); operations = kept.low.operations })
+    pub ends_by_fall : ltb (hj.pace.ticks * kept.low.pace.operations) (kept.low.pace.ticks * hj.pace.operations) ≡ true → EndIs ℓ s p (record { last = kept.low.at; time = ℓ.arrival (kept.low.at + 1); operations = kept.low.pace.operations })
     ends_by_fall e = rw (add-one kept.low.at) (record {
       k = wd.k;
       stretch = ki.stretch;
@@ -115,7 +115,7 @@ module _ (ℓ : Reports) (s p : ℕ) (some : 0 < ℓ.operations p) where
     })
 
     -- the last of the best, after the choice that the code makes
-    next_high : (b : Bool) → ltb (kept.high.ticks * hj.operations) (hj.ticks * kept.high.operations) ≡ b → Best ◌≺◌ ◌≼◌ (high ℓ s p) p (suc kept.next) (cond b kept.high hj).at
+    next_high : (b : Bool) → ltb (kept.high.pace.ticks * hj.pace.operations) (hj.pace.ticks * kept.high.pace.operations) ≡ b → Best ◌≺◌ ◌≼◌ (high ℓ s p) p (suc kept.next) (cond b kept.high hj).at
     next_high true e =
         best_keep up (high ℓ s p) p kept.next kept.high.at sc.least
         (subst (λ (i : ℕ). high ℓ s p kept.high.at ≺ high ℓ s p i) wd.high_at (is_below ℓ.deadline ℓ.deadline kept.high hj ki.high_is wd.high_is from_h from_hj e))
@@ -124,7 +124,7 @@ module _ (ℓ : Reports) (s p : ℕ) (some : 0 < ℓ.operations p) where
         (best_take up (high ℓ s p) p kept.next kept.high.at sc.least
         (subst (λ (i : ℕ). high ℓ s p i ≼ high ℓ s p kept.high.at) wd.high_at (not_below ℓ.deadline ℓ.deadline kept.high hj ki.high_is wd.high_is from_h from_hj e)))
 
-    next_low : (b : Bool) → ltb (lj.ticks * kept.low.operations) (kept.low.ticks * lj.operations) ≡ b → Best ◌≻◌ ◌≽◌ (low ℓ s p wd.k) p (suc kept.next) (cond b kept.low lj).at
+    next_low : (b : Bool) → ltb (lj.pace.ticks * kept.low.pace.operations) (kept.low.pace.ticks * lj.pace.operations) ≡ b → Best ◌≻◌ ◌≽◌ (low ℓ s p wd.k) p (suc kept.next) (cond b kept.low lj).at
     next_low true e =
         best_keep down (low ℓ s p wd.k) p kept.next kept.low.at sc.greatest
         (subst (λ (i : ℕ). low ℓ s p wd.k i ≺ low ℓ s p wd.k kept.low.at) wd.low_at (is_below (floor ℓ wd.k) (floor ℓ wd.k) lj kept.low wd.low_is ki.low_is from_lj from_l e))
@@ -138,19 +138,19 @@ module _ (ℓ : Reports) (s p : ℕ) (some : 0 < ℓ.operations p) where
     either time false m n i o = o
 
     abbrev keep_high : Bool
-    keep_high = ltb (kept.high.ticks * hj.operations) (hj.ticks * kept.high.operations)
+    keep_high = ltb (kept.high.pace.ticks * hj.pace.operations) (hj.pace.ticks * kept.high.pace.operations)
 
     abbrev keep_low : Bool
-    keep_low = ltb (lj.ticks * kept.low.operations) (kept.low.ticks * lj.operations)
+    keep_low = ltb (lj.pace.ticks * kept.low.pace.operations) (kept.low.pace.ticks * lj.pace.operations)
 
     pub goes_on :
-        ltb (kept.high.ticks * lj.operations) (lj.ticks * kept.high.operations) ≡ false →
-        ltb (hj.ticks * kept.low.operations) (kept.low.ticks * hj.operations) ≡ false →
+        ltb (kept.high.pace.ticks * lj.pace.operations) (lj.pace.ticks * kept.high.pace.operations) ≡ false →
+        ltb (hj.pace.ticks * kept.low.pace.operations) (kept.low.pace.ticks * hj.pace.operations) ≡ false →
         KeptIs ℓ s p (record {
           next = kept.next + 1;
-          sum = hj.operations;
-          high = cond (ltb (kept.high.ticks * hj.operations) (hj.ticks * kept.high.operations)) kept.high hj;
-          low = cond (ltb (lj.ticks * kept.low.operations) (kept.low.ticks * lj.operations)) kept.low lj;
+          sum = hj.pace.operations;
+          high = cond (ltb (kept.high.pace.ticks * hj.pace.operations) (hj.pace.ticks * kept.high.pace.operations)) kept.high hj;
+          low = cond (ltb (lj.pace.ticks * kept.low.pace.operations) (kept.low.pace.ticks * lj.pace.operations)) kept.low lj;
         })
     goes_on x y = rw (add-one kept.next) (record {
       k = wd.k;
@@ -172,47 +172,40 @@ module _ (ℓ : Reports) (s p : ℕ) (some : 0 < ℓ.operations p) where
 
     -- the same for the marks that the code has chosen
     pub goes_on_with :
-        (b₁ b₂ : Bool) (h' l' : Mark) →
-        ltb (kept.high.ticks * lj.operations) (lj.ticks * kept.high.operations) ≡ false →
-        ltb (hj.ticks * kept.low.operations) (kept.low.ticks * hj.operations) ≡ false →
-        b₁ ≡ keep_high → b₂ ≡ keep_low → h' ≡ cond b₁ kept.high hj → l' ≡ cond b₂ kept.low lj →
-        KeptIs ℓ s p (record { next = kept.next + 1; sum = hj.operations; high = h'; low = l' })
-    goes_on_with b₁ b₂ h' l' x y e₁ e₂ f g = rw (f, g, e₁, e₂) (goes_on x y)
+        (h' l' : Mark) →
+        ltb (kept.high.pace.ticks * lj.pace.operations) (lj.pace.ticks * kept.high.pace.operations) ≡ false →
+        ltb (hj.pace.ticks * kept.low.pace.operations) (kept.low.pace.ticks * hj.pace.operations) ≡ false →
+        h' ≡ cond keep_high kept.high hj → l' ≡ cond keep_low kept.low lj →
+        KeptIs ℓ s p (record { next = kept.next + 1; sum = hj.pace.operations; high = h'; low = l' })
+    goes_on_with h' l' x y f g = rw (f, g) (goes_on x y)
 
--- ---- the stretch, seen from the lists
-module _ (xs ys ws : List ℕ) (fair : Fair xs ys ws) where
-  abbrev ℓ : Reports
-  ℓ = list_of xs ys ws
-
+  -- ---- the stretch, seen from the lists
   -- the operations of a run are few enough for 32 bits
-  pub span_small : (p j : ℕ) → j < length xs → span ℓ.operations p j ≤ 65535 * suc j
-  span_small p j h = omega (arith, sum_bound ℓ.operations 65535 (suc j) (λ i k. fair.work i (omega arith)))
-
-  pub works_at : (p k : ℕ) → Stretch ℓ p k → 0 < ℓ.operations p
-  works_at p k st = fair.some p (omega (arith, st.from, st.on_list))
+  span_small : (j : ℕ) → j < length xs → span ℓ.operations p j ≤ 65535 * suc j
+  span_small j h = omega (arith, sum_bound ℓ.operations 65535 (suc j) (λ i k. block.fair.fair.work i (omega arith)))
 
   -- inside a stretch two reports join, at its end they do not
-  joins_inside : (p k j : ℕ) → Stretch ℓ p k → p ≤ j → j < k → Joins xs ys j
-  joins_inside p k j st h l = record { on = omega (arith, st.on_list); meets = st.joined j h l }
+  joins_inside : (k j : ℕ) → Stretch ℓ p k → p ≤ j → j < k → Joins xs ys j
+  joins_inside k j st h l = record { on = omega (arith, st.on_list); meets = st.joined j h l }
 
-  joins_not : (p k : ℕ) → Stretch ℓ p k → Joins xs ys k → ⊥
-  joins_not p k st m = omega (arith, st.closed m.on, m.meets)
+  joins_not : (k : ℕ) → Stretch ℓ p k → Joins xs ys k → ⊥
+  joins_not k st m = omega (arith, st.closed m.on, m.meets)
 
   -- the floor that the code finds is the stretch's
-  pub floor_is : (p k j r : ℕ) → Stretch ℓ p k → p ≤ j → j ≤ k → FloorIs xs ys j r → r ≡ floor ℓ k j
-  floor_is p k j r st h l f =
-      ⊎_elim (λ (e : j ≡ k). f.apart (λ m. joins_not p k st (subst (Joins xs ys) e m)) ∙ sym (floor_end ℓ k j (omega arith)))
-      (λ m. f.joined (joins_inside p k j st h m) ∙ sym (floor_in ℓ k j m)) (eq-or-lt_of_le l)
+  floor_is : (k j r : ℕ) → Stretch ℓ p k → p ≤ j → j ≤ k → FloorIs xs ys j r → r ≡ floor ℓ k j
+  floor_is k j r st h l f =
+      ⊎_elim (λ (e : j ≡ k). f.apart (λ m. joins_not k st (subst (Joins xs ys) e m)) ∙ sym (floor_end ℓ k j (omega arith)))
+      (λ m. f.joined (joins_inside k j st h m) ∙ sym (floor_in ℓ k j m)) (eq-or-lt_of_le l)
 
-  module _ (s p : ℕ) (kept : Kept) where
+  module _ (kept : Kept) where
     -- the reports taken so far, seen from the last of them
     last_taken : (k : ℕ) → KeptIn ℓ s p k kept → suc (kept.next - 1) ≡ kept.next
     last_taken k ki = omega (arith, ki.scan.least.before)
 
     -- where the last report taken joins the next, the next is still of the stretch
-    pub still : (k : ℕ) → KeptIn ℓ s p k kept → Joins xs ys (kept.next - 1) → kept.next ≤ k
+    still : (k : ℕ) → KeptIn ℓ s p k kept → Joins xs ys (kept.next - 1) → kept.next ≤ k
     still k ki m =
-        ⊎_elim (λ (e : kept.next ≡ suc k). absurd (joins_not p k ki.stretch (subst (Joins xs ys) (omega (arith, e)) m))) (λ l. le_of_suc-le-suc l)
+        ⊎_elim (λ (e : kept.next ≡ suc k). absurd (joins_not k ki.stretch (subst (Joins xs ys) (omega (arith, e)) m))) (λ l. le_of_suc-le-suc l)
         (eq-or-lt_of_le ki.upto)
 
     -- and where it does not, the stretch ends
@@ -220,7 +213,7 @@ module _ (xs ys ws : List ℕ) (fair : Fair xs ys ws) where
     ends_whole ks apart =
         let k : ℕ = ks.k in
         let ki : KeptIn ℓ s p k kept = ks.kept_in in
-        let all : kept.next ≡ suc k = ⊎_elim (λ (e : kept.next ≡ suc k). e) (λ l. absurd (apart (joins_inside p k (kept.next - 1) ki.stretch (omega (arith, ki.scan.least.from, ki.scan.least.before)) (omega (arith, l, ki.scan.least.before))))) (eq-or-lt_of_le ki.upto) in
+        let all : kept.next ≡ suc k = ⊎_elim (λ (e : kept.next ≡ suc k). e) (λ l. absurd (apart (joins_inside k (kept.next - 1) ki.stretch (omega (arith, ki.scan.least.from, ki.scan.least.before)) (omega (arith, l, ki.scan.least.before))))) (eq-or-lt_of_le ki.upto) in
         let last : kept.next - 1 ≡ k = omega (arith, all) in
         record {
           k = k;
@@ -228,7 +221,7 @@ module _ (xs ys ws : List ℕ) (fair : Fair xs ys ws) where
           on = omega (arith, last);
           from = omega (arith, last, ki.stretch.from);
           operations_are = ki.sum_is;
-          found = λ f rd. rw last (finds_whole ℓ f s p k ki.stretch (works_at p k ki.stretch) rd kept.next kept.high.at kept.low.at ki.scan all);
+          found = λ f rd. rw last (finds_whole ℓ f s p k ki.stretch some rd kept.next kept.high.at kept.low.at ki.scan all);
         }
 
     -- with the next report the operations still fit
@@ -237,14 +230,14 @@ module _ (xs ys ws : List ℕ) (fair : Fair xs ys ws) where
         let ki : KeptIn ℓ s p ks.k kept = ks.kept_in in
         let on : kept.next ≤ ks.k = still ks.k ki m in
         let in_list : kept.next < length xs = omega (arith, on, ki.stretch.on_list) in
-        omega (arith, ki.sum_is, span_small p (kept.next - 1) (omega arith), last_taken ks.k ki, fair.work kept.next in_list, fair.few, in_list)
+        omega (arith, ki.sum_is, span_small (kept.next - 1) (omega arith), last_taken ks.k ki, block.fair.fair.work kept.next in_list, block.fair.fair.few, in_list)
 
     -- the marks of the next report
     pub weighed :
         (ks : KeptIs ℓ s p kept) → Joins xs ys (kept.next - 1) → (hj lj : Mark) (fl sum : ℕ) →
         sum ≡ kept.sum + ℓ.operations kept.next → FloorIs xs ys kept.next fl →
-        (hj.at ≡ kept.next) × (hj.ticks ≡ ℓ.deadline kept.next - s) × (hj.operations ≡ sum) →
-        (lj.at ≡ kept.next) × (lj.ticks ≡ fl - s) × (lj.operations ≡ sum) →
+        hj ≡ mark kept.next (ℓ.deadline kept.next) s sum →
+        lj ≡ mark kept.next fl s sum →
         Weighed ℓ s p kept hj lj
     weighed ks m hj lj fl sum e f h l =
         let k : ℕ = ks.k in
@@ -252,15 +245,15 @@ module _ (xs ys ws : List ℕ) (fair : Fair xs ys ws) where
         let on : kept.next ≤ k = still k ki m in
         let from : p ≤ kept.next = omega (arith, ki.scan.least.from, ki.scan.least.before) in
         let total : sum ≡ span ℓ.operations p kept.next = e ∙ ap (λ (x : ℕ). x + ℓ.operations kept.next) ki.sum_is ∙ joined_sum k ki in
-        record {
+        rw (h, l) (record {
           k = k;
           kept_in = ki;
           on = on;
-          high_at = h.0;
-          low_at = l.0;
-          high_is = record { ticks_are = h.1 ∙ ap (λ (i : ℕ). ℓ.deadline i - s) (sym h.0); operations_are = h.2 ∙ total ∙ ap (span ℓ.operations p) (sym h.0) };
-          low_is = record { ticks_are = l.1 ∙ ap (λ (x : ℕ). x - s) (floor_is p k kept.next fl ki.stretch from on f) ∙ ap (λ (i : ℕ). floor ℓ k i - s) (sym l.0); operations_are = l.2 ∙ total ∙ ap (span ℓ.operations p) (sym l.0) };
-        }
+          high_at = refl;
+          low_at = refl;
+          high_is = record { ticks_are = refl; operations_are = total };
+          low_is = record { ticks_are = ap (λ (x : ℕ). x - s) (floor_is k kept.next fl ki.stretch from on f); operations_are = total };
+        })
       where
         joined_sum : (k : ℕ) → KeptIn ℓ s p k kept → span ℓ.operations p (kept.next - 1) + ℓ.operations kept.next ≡ span ℓ.operations p kept.next
         joined_sum k ki =
@@ -269,21 +262,21 @@ module _ (xs ys ws : List ℕ) (fair : Fair xs ys ws) where
 
   -- the search begins
   pub begins_kept :
-      (s p : ℕ) (hj lj : Mark) (fl sum : ℕ) → p < length xs → sum ≡ ℓ.operations p → FloorIs xs ys p fl →
-      (hj.at ≡ p) × (hj.ticks ≡ ℓ.deadline p - s) × (hj.operations ≡ sum) →
-      (lj.at ≡ p) × (lj.ticks ≡ fl - s) × (lj.operations ≡ sum) →
+      (hj lj : Mark) (fl sum : ℕ) → sum ≡ ℓ.operations p → FloorIs xs ys p fl →
+      hj ≡ mark p (ℓ.deadline p) s sum →
+      lj ≡ mark p fl s sum →
       KeptIs ℓ s p (record { next = p + 1; sum = sum; high = hj; low = lj })
-  begins_kept s p hj lj fl sum on e f h l =
-      let st = stretch_from ℓ p on in
+  begins_kept hj lj fl sum e f h l =
+      let st = stretch_from ℓ p block.on in
       let k : ℕ = st.0 in
       let total : sum ≡ span ℓ.operations p p = e ∙ sym (span_one ℓ.operations p) in
-      rw (add-one p) (record {
+      rw (add-one p, h, l) (record {
         k = k;
         kept_in = record {
           stretch = st.1;
-          scan = subst (λ (i : ℕ). Scan ℓ s p k (suc p) i lj.at) (sym h.0) (subst (λ (i : ℕ). Scan ℓ s p k (suc p) p i) (sym l.0) (scan_first ℓ s p k st.1));
-          high_is = record { ticks_are = h.1 ∙ ap (λ (i : ℕ). ℓ.deadline i - s) (sym h.0); operations_are = h.2 ∙ total ∙ ap (span ℓ.operations p) (sym h.0) };
-          low_is = record { ticks_are = l.1 ∙ ap (λ (x : ℕ). x - s) (floor_is p k p fl st.1 (le_refl p) st.1.from f) ∙ ap (λ (i : ℕ). floor ℓ k i - s) (sym l.0); operations_are = l.2 ∙ total ∙ ap (span ℓ.operations p) (sym l.0) };
+          scan = scan_first ℓ s p k st.1;
+          high_is = record { ticks_are = refl; operations_are = total };
+          low_is = record { ticks_are = ap (λ (x : ℕ). x - s) (floor_is k p fl st.1 (le_refl p) st.1.from f); operations_are = total };
           sum_is = total ∙ ap (span ℓ.operations p) before_next;
           upto = omega (arith, st.1.from);
         };
@@ -291,13 +284,3 @@ module _ (xs ys ws : List ℕ) (fair : Fair xs ys ws) where
     where
       before_next : p ≡ suc p - 1
       before_next = omega arith
-
--- ---- a step that is known to end the search, or to go on
-module _ (ℓ : Reports) (s p n : ℕ) (r : Step) (is : StepIs ℓ s p n r) where
-  pub step_ends : (e : End) → r ≡ Ends e → EndIs ℓ s p e
-  unfolding StepIs
-  step_ends e eq = subst (StepIs ℓ s p n) eq is
-
-  pub step_goes : (k : Kept) → r ≡ Goes k → KeptIs ℓ s p k × (k.next ≡ n + 1)
-  unfolding StepIs
-  step_goes k eq = subst (StepIs ℓ s p n) eq is

@@ -1,9 +1,10 @@
 -- What the functions inside this crate ask of each other and tell each other. No promise of the entry point cites it.
 -- Assumes nothing.
-use Rattle.std.specs.Prelude.{◌≡◌, ℕ, suc, ◌+◌, ◌-◌, ◌*◌, ◌<◌, ◌≤◌, List, length, slice_index, slice_index_or}
+use Rattle.std.specs.Prelude.{◌≡◌, ℕ, suc, ◌+◌, ◌-◌, ◌*◌, ◌<◌, ◌≤◌, List, Option, IfSome, IfNone, length, slice_index, slice_index_or}
+use Rattle.std.proofs.Common.{ControlFlow, Continue, Break}
 use Rattle.std.proofs.Math.Seq.{paste}
 use Rattle.fraction.specs.Fraction.{Fraction}
-use Rattle.critical.specs.Reports.{Reports, Positive, Plannable, FirstWithout}
+use Rattle.critical.specs.Reports.{Reports, list_of, Positive, Plannable, FirstWithout}
 use Rattle.critical.specs.Rows.{Critical}
 use Rattle.critical.proofs.Lines.{span}
 use Rattle.critical.proofs.Room.{Roomy}
@@ -11,19 +12,31 @@ use Rattle.critical.proofs.Search.{Stretch, Scan, Found, Ready, floor, row_of}
 use Rattle.answers.specs.Numbers.{Answer, number_of, place_of, blocks_of, width}
 use Rattle.trials.specs.Rules.{Rule}
 use Rattle.planner.specs.Outcome.{row_at, Outcome}
-use Rattle.rules.specs.Offsets.{pace_of}
+use Rattle.rules.specs.Offsets.{offsets_of, pace_of}
+use Rattle.rules.specs.declared.Report.{Report}
+use Rattle.rules.specs.declared.ReportList.{ReportList}
 use Rattle.rules.specs.declared.Roll.{Roll}
 use Rattle.planner.specs.declared.search.Mark.{Mark}
 use Rattle.planner.specs.declared.search.Kept.{Kept}
 use Rattle.planner.specs.declared.search.End.{End}
-use Rattle.planner.specs.declared.search.Step.{Step}
-use Rattle.planner.specs.declared.search.Step.TheVariants.{Ends, Goes}
 
--- Where the pass at the fastest pace ends: at the first report without a plan, or behind the list.
-pub record PassEnds (ℓ : Reports) (fastest : Fraction) (r : ℕ) : Type 0 where
-  pub within : r ≤ ℓ.count
-  pub stops : r < ℓ.count → FirstWithout ℓ fastest r
-  pub passes : r ≡ ℓ.count → Plannable ℓ fastest
+-- ---- what a list holds
+-- The reports of a list of offsets.
+abbrev pub reports_in : ReportList → Reports
+reports_in list = list_of list.arrivals.now list.deadlines.now list.operations.now
+
+-- Those of a list of readings, by their offsets.
+abbrev pub offsets_in : ReportList → Reports
+offsets_in list = offsets_of list.terms.reference list.arrivals.now list.deadlines.now list.operations.now
+
+-- Report i of a list of offsets.
+abbrev pub report_in : ReportList → ℕ → Report
+report_in list i = record { arrival = (reports_in list).arrival i; deadline = (reports_in list).deadline i; operations = (reports_in list).operations i }
+
+-- Where the pass at the fastest pace ends: at the first report without a plan, or nowhere where there is a plan for all.
+pub record PassEnds (ℓ : Reports) (fastest : Fraction) (r : Option ℕ) : Type 0 where
+  pub stops : IfSome r (λ i. FirstWithout ℓ fastest i)
+  pub passes : IfNone r (Plannable ℓ fastest)
 
 -- ---- the search
 -- Whether report j and the next belong to one stretch.
@@ -36,10 +49,14 @@ pub record FloorIs (arrivals deadlines : List ℕ) (j r : ℕ) : Type 0 where
   pub joined : Joins arrivals deadlines j → r ≡ slice_index arrivals (suc j)
   pub apart : (Joins arrivals deadlines j → ⊥) → r ≡ slice_index deadlines j
 
+-- The mark of a report and a time, nil where that time is before s.
+abbrev pub mark : (at time s operations : ℕ) → Mark
+mark at time s operations = record { at = at; pace = record { ticks = time - s; operations = operations } }
+
 -- A mark is the pace from s to a time of its report, over the operations from p on.
 pub record MarkIs (ℓ : Reports) (s p : ℕ) (time : ℕ → ℕ) (m : Mark) : Type 0 where
-  pub ticks_are : m.ticks ≡ time m.at - s
-  pub operations_are : m.operations ≡ span ℓ.operations p m.at
+  pub ticks_are : m.pace.ticks ≡ time m.at - s
+  pub operations_are : m.pace.operations ≡ span ℓ.operations p m.at
 
 -- What the search keeps, in a stretch that ends at k.
 pub record KeptIn (ℓ : Reports) (s p k : ℕ) (kept : Kept) : Type 0 where
@@ -74,9 +91,12 @@ pub record EndIs (ℓ : Reports) (s p : ℕ) (e : End) : Type 0 where
   pub found : (fastest : Fraction) → Ready ℓ fastest s p k → Found ℓ fastest k (row_of ℓ s p e.last e.time)
 
 -- What one report does to the search: it ends it, or it joins.
-unfoldable pub StepIs : Reports → ℕ → ℕ → ℕ → Step → Type 0
-StepIs ℓ s p next (Ends e) = EndIs ℓ s p e
-StepIs ℓ s p next (Goes kept) = KeptIs ℓ s p kept × (kept.next ≡ next + 1)
+abbrev pub Step : Type 0
+Step = ControlFlow End Kept
+
+abbrev pub StepIs : Reports → ℕ → ℕ → ℕ → Step → Type 0
+StepIs ℓ s p next (Break e) = EndIs ℓ s p e
+StepIs ℓ s p next (Continue kept) = KeptIs ℓ s p kept × (kept.next ≡ next + 1)
 
 -- ---- the rows
 -- The buffer with the numbers of row k written: nothing else of it changes.

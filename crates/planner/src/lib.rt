@@ -9,6 +9,7 @@ use rules::{ReportList, count_rules};
 
 mod blocks;
 mod forms;
+mod list;
 mod pass;
 mod readings;
 mod search;

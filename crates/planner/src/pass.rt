@@ -1,11 +1,10 @@
 // The pass at the fastest pace: it decides whether there is an allowed plan, before a row is
 // written. Times are kept multiplied by Q, so they are whole.
 ghost use Rattle.std.specs.Prelude.{◌≡◌, ◌+◌, ◌*◌, ◌^◌, ◌<◌, ◌≤◌, max};
-ghost use Rattle.critical.specs.Reports.{list_of};
 ghost use Rattle.rules.specs.Offsets.{pace_of};
-ghost use Rattle.rules.specs.Leaves.{Fair, Paced};
-ghost use Rattle.planner.specs.Inside.{PassEnds};
+ghost use Rattle.planner.specs.Inside.{PassEnds, reports_in};
 
+use crate::list::FairList;
 use rules::{Report, Roll};
 
 // Q times the finish of a report, from Q times the finish of the one before.
@@ -15,11 +14,7 @@ fn finish(report: Report, terms: Roll, before: u64) -> u64
 {
     let arrived = (terms.q as u64) * (report.arrival as u64);
     let work = (report.operations as u64) * (terms.p as u64);
-    if arrived < before {
-        before + work
-    } else {
-        arrived + work
-    }
+    arrived.max(before) + work
 }
 
 // Q times a report's deadline.
@@ -29,21 +24,17 @@ fn due(report: Report, terms: Roll) -> u64
     (terms.q as u64) * (report.deadline as u64)
 }
 
-// The first report without a plan, or the list's length where there is a plan for all.
-pub fn first_without(arrivals: &[u32], deadlines: &[u32], operations: &[u32], terms: Roll) -> usize
-    requires fair { Fair arrivals.now deadlines.now operations.now }
-    requires pace { Paced terms }
-    ensures { PassEnds (list_of arrivals.now deadlines.now operations.now) (pace_of terms) result }
+// The first report without a plan, or none where there is a plan for all.
+pub fn first_without(fair: FairList<'_>) -> Option<usize>
+    ensures { PassEnds (reports_in fair.entry.list) (pace_of fair.entry.list.terms) result }
 {
-    let mut i = 0;
     let mut done: u64 = 0;
-    while i < arrivals.len() {
-        let report = Report::new(arrivals[i], deadlines[i], operations[i]);
-        done = finish(report, terms, done);
-        if due(report, terms) < done {
-            return i;
+    for i in 0..fair.list.arrivals.len() {
+        let report = fair.report(i);
+        done = finish(report, fair.list.terms, done);
+        if due(report, fair.list.terms) < done {
+            return Some(i);
         }
-        i += 1;
     }
-    i
+    None
 }

@@ -6,7 +6,7 @@ ghost use Rattle.rules.specs.Offsets.{offset};
 pub fn offset(reading: u32, reference: u32) -> u32
     ensures { result ≡ offset reference reading }
 {
-    std::num::wrapping_sub_u32(reading, reference)
+    reading.wrapping_sub(reference)
 }
 
 // The offsets of all readings, at the front of out.
@@ -14,9 +14,7 @@ pub fn offsets(readings: &[u32], reference: u32, out: &mut [u32])
     requires { length readings.now ≤ length out.old }
     ensures { take (length readings.now) out.new ≡ map (offset reference) readings.now }
 {
-    let mut i = 0;
-    while i < readings.len() {
-        out[i] = offset(readings[i], reference);
-        i += 1;
+    for (i, reading) in readings.iter().enumerate() {
+        out[i] = offset(*reading, reference);
     }
 }

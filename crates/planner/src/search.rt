@@ -1,18 +1,32 @@
 // The search for the next block (01, "Blocks"): report by report, with the last least high and the
 // last greatest low so far.
-ghost use Rattle.std.specs.Prelude.{◌≡◌, ◌+◌, ◌-◌, ◌*◌, ◌<◌, min, true, false, length, if◌then◌else◌, nat_lt};
-ghost use Rattle.critical.specs.Reports.{list_of};
-ghost use Rattle.rules.specs.Leaves.{Fair};
-ghost use Rattle.planner.specs.Inside.{FloorIs, Joins, KeptIs, StepIs, Weighed};
+ghost use Rattle.std.specs.Prelude.{◌≡◌, ◌+◌, ◌-◌, ◌<◌, length};
+ghost use Rattle.planner.specs.Inside.{mark};
 
+use crate::list::FairList;
 use fraction::Pace;
+use std::ops::ControlFlow;
 
 // A high or a low: the report, and the pace from the block's start to a time of that report.
 #[derive(Clone, Copy)]
 pub struct Mark {
     pub at: usize,
-    pub ticks: u32,
-    pub operations: u32,
+    pub pace: Pace,
+}
+
+impl Mark {
+    // The mark of a report and a time: its pace from the block's start, nil where that time is past.
+    fn new(at: usize, time: u32, from: u32, operations: u32) -> Mark
+        ensures { result ≡ mark at time from operations }
+    {
+        Mark {
+            at,
+            pace: Pace {
+                ticks: time.saturating_sub(from),
+                operations,
+            },
+        }
+    }
 }
 
 // What the search keeps before report next: the operations so far, the last least high and the last
@@ -33,201 +47,91 @@ pub struct End {
     pub operations: u32,
 }
 
-// What one report does to the search: it ends it, or it joins.
+// What one report does to the search: it ends it, or it joins, and the search goes on.
+pub type Step = ControlFlow<End, Kept>;
+
+// A block to be found: the list, the block's first report, and its start.
 #[derive(Clone, Copy)]
-pub enum Step {
-    Ends(End),
-    Goes(Kept),
+pub struct Search<'a> {
+    pub fair: FairList<'a>,
+    pub first: usize,
+    pub from: u32,
+    pub ghost on: { first < length fair.list.arrivals.now },
 }
 
-// The pace from the block's start to a time, nil where that time is past.
-fn pace_to(at: usize, time: u32, from: u32, operations: u32) -> Mark
-    ensures { (result.at ≡ at) × (result.ticks ≡ time - from) × (result.operations ≡ operations) }
-{
-    if time < from {
-        Mark {
-            at,
-            ticks: 0,
-            operations,
+impl Search<'_> {
+    ghost use Rattle.planner.specs.Inside.{reports_in, KeptIs, StepIs, Weighed};
+
+    // Report kept.next with its marks: it ends the search where its low exceeds the least high or its
+    // high lies below the greatest low; else it joins, and of equal marks the last is kept.
+    fn judge(&self, kept: Kept, high: Mark, low: Mark) -> Step
+        requires { Weighed (reports_in self.now.fair.list) self.now.from self.now.first kept high low }
+        ensures { StepIs (reports_in self.now.fair.list) self.now.from self.now.first kept.next result }
+    {
+        let least = kept.high;
+        let greatest = kept.low;
+        if least.pace.below(low.pace) {
+            let last = least.at;
+            return ControlFlow::Break(End {
+                last,
+                time: self.fair.list.deadlines[last],
+                operations: least.pace.operations,
+            });
         }
-    } else {
-        Mark {
-            at,
-            ticks: time - from,
-            operations,
+        if high.pace.below(greatest.pace) {
+            let last = greatest.at;
+            return ControlFlow::Break(End {
+                last,
+                time: self.fair.list.arrivals[last + 1],
+                operations: greatest.pace.operations,
+            });
         }
+        let high_stays = least.pace.below(high.pace);
+        let low_stays = low.pace.below(greatest.pace);
+        let next_high = if high_stays { least } else { high };
+        let next_low = if low_stays { greatest } else { low };
+        ControlFlow::Continue(Kept {
+            next: kept.next + 1,
+            sum: high.pace.operations,
+            high: next_high,
+            low: next_low,
+        })
     }
-}
 
-// Whether one mark's pace is below another's.
-fn below(a: Mark, b: Mark) -> bool
-    ensures { result ≡ nat_lt (a.ticks * b.operations) (b.ticks * a.operations) }
-{
-    let one = Pace {
-        ticks: a.ticks,
-        operations: a.operations,
-    };
-    let other = Pace {
-        ticks: b.ticks,
-        operations: b.operations,
-    };
-    one.below(other)
-}
-
-// The mark that is kept, or the next one.
-fn choose(keep: bool, kept: Mark, next: Mark) -> Mark
-    ensures { result ≡ (if keep then kept else next) }
-{
-    if keep { kept } else { next }
-}
-
-// Whether report j and the next belong to one stretch.
-fn joins(arrivals: &[u32], deadlines: &[u32], j: usize) -> bool
-    requires { (j < length deadlines.now) × (length deadlines.now ≡ length arrivals.now) }
-    ensures yes { result ≡ true → Joins arrivals.now deadlines.now j }
-    ensures no { result ≡ false → Joins arrivals.now deadlines.now j → ⊥ }
-{
-    let next = j + 1;
-    if next < arrivals.len() {
-        arrivals[next] <= deadlines[j]
-    } else {
-        false
+    // What report kept.next does to the search: the stretch's end ends it too.
+    pub fn take(&self, kept: Kept) -> Step
+        requires { KeptIs (reports_in self.now.fair.list) self.now.from self.now.first kept }
+        ensures { StepIs (reports_in self.now.fair.list) self.now.from self.now.first kept.next result }
+    {
+        let last = kept.next - 1;
+        if !self.fair.joins(last) {
+            return ControlFlow::Break(End {
+                last,
+                time: self.fair.list.deadlines[last],
+                operations: kept.sum,
+            });
+        }
+        let j = kept.next;
+        let sum = kept.sum + self.fair.list.operations[j];
+        let high = Mark::new(j, self.fair.list.deadlines[j], self.from, sum);
+        let low = Mark::new(j, self.fair.floor(j), self.from, sum);
+        self.judge(kept, high, low)
     }
-}
 
-// The sooner of two times.
-fn sooner(a: u32, b: u32) -> u32
-    ensures { result ≡ min a b }
-{
-    if b < a { b } else { a }
-}
-
-// The least time at which report j may end: the next arrival where they join, else its deadline. That
-// is the sooner of the two, where there is a next report.
-fn floor(arrivals: &[u32], deadlines: &[u32], j: usize) -> u32
-    requires { (j < length deadlines.now) × (length deadlines.now ≡ length arrivals.now) }
-    ensures { FloorIs arrivals.now deadlines.now j result }
-{
-    let next = j + 1;
-    let due = deadlines[j];
-    if next < arrivals.len() {
-        sooner(arrivals[next], due)
-    } else {
-        due
-    }
-}
-
-// Report kept.next with its marks: it ends the search where its low exceeds the least high or its
-// high lies below the greatest low; else it joins, and of equal marks the last is kept.
-fn judge(
-    arrivals: &[u32],
-    deadlines: &[u32],
-    operations: &[u32],
-    first: usize,
-    from: u32,
-    kept: Kept,
-    high: Mark,
-    low: Mark,
-) -> Step
-    requires fair { Fair arrivals.now deadlines.now operations.now }
-    requires weighed { Weighed (list_of arrivals.now deadlines.now operations.now) from first kept high low }
-    ensures { StepIs (list_of arrivals.now deadlines.now operations.now) from first kept.next result }
-{
-    let least = kept.high;
-    let greatest = kept.low;
-    if below(least, low) {
-        let last = least.at;
-        return Step::Ends(End {
-            last,
-            time: deadlines[last],
-            operations: least.operations,
-        });
-    }
-    if below(high, greatest) {
-        let last = greatest.at;
-        return Step::Ends(End {
-            last,
-            time: arrivals[last + 1],
-            operations: greatest.operations,
-        });
-    }
-    let next_high = choose(below(least, high), least, high);
-    let next_low = choose(below(low, greatest), greatest, low);
-    Step::Goes(Kept {
-        next: kept.next + 1,
-        sum: high.operations,
-        high: next_high,
-        low: next_low,
-    })
-}
-
-// Report kept.next, which is still of the stretch.
-fn weigh(
-    arrivals: &[u32],
-    deadlines: &[u32],
-    operations: &[u32],
-    first: usize,
-    from: u32,
-    kept: Kept,
-) -> Step
-    requires fair { Fair arrivals.now deadlines.now operations.now }
-    requires kept { KeptIs (list_of arrivals.now deadlines.now operations.now) from first kept }
-    requires joined { Joins arrivals.now deadlines.now (kept.next - 1) }
-    ensures { StepIs (list_of arrivals.now deadlines.now operations.now) from first kept.next result }
-{
-    let j = kept.next;
-    let sum = kept.sum + operations[j];
-    let high = pace_to(j, deadlines[j], from, sum);
-    let low = pace_to(j, floor(arrivals, deadlines, j), from, sum);
-    judge(
-        arrivals, deadlines, operations, first, from, kept, high, low,
-    )
-}
-
-// What the next report does to the search: the stretch's end ends it too.
-pub fn take(
-    arrivals: &[u32],
-    deadlines: &[u32],
-    operations: &[u32],
-    first: usize,
-    from: u32,
-    kept: Kept,
-) -> Step
-    requires fair { Fair arrivals.now deadlines.now operations.now }
-    requires kept { KeptIs (list_of arrivals.now deadlines.now operations.now) from first kept }
-    ensures { StepIs (list_of arrivals.now deadlines.now operations.now) from first kept.next result }
-{
-    let last = kept.next - 1;
-    if joins(arrivals, deadlines, last) {
-        return weigh(arrivals, deadlines, operations, first, from, kept);
-    }
-    Step::Ends(End {
-        last,
-        time: deadlines[last],
-        operations: kept.sum,
-    })
-}
-
-// The search begins with the block's first report.
-pub fn begin(
-    arrivals: &[u32],
-    deadlines: &[u32],
-    operations: &[u32],
-    first: usize,
-    from: u32,
-) -> Kept
-    requires fair { Fair arrivals.now deadlines.now operations.now }
-    requires on { first < length arrivals.now }
-    ensures kept_is { KeptIs (list_of arrivals.now deadlines.now operations.now) from first result }
-    ensures next { result.next ≡ first + 1 }
-{
-    let sum = operations[first];
-    let high = pace_to(first, deadlines[first], from, sum);
-    let low = pace_to(first, floor(arrivals, deadlines, first), from, sum);
-    Kept {
-        next: first + 1,
-        sum,
-        high,
-        low,
+    // The search begins with the block's first report.
+    pub fn begin(&self) -> Kept
+        ensures kept_is { KeptIs (reports_in self.now.fair.list) self.now.from self.now.first result }
+        ensures next { result.next ≡ self.now.first + 1 }
+    {
+        let first = self.first;
+        let sum = self.fair.list.operations[first];
+        let high = Mark::new(first, self.fair.list.deadlines[first], self.from, sum);
+        let low = Mark::new(first, self.fair.floor(first), self.from, sum);
+        Kept {
+            next: first + 1,
+            sum,
+            high,
+            low,
+        }
     }
 }

@@ -1,53 +1,40 @@
 -- A step that goes on keeps what the search keeps, and takes one report; one that ends the search has found the block's end, whose row is written.
-use Rattle.std.proofs.Common.{ℕ, ◌≡◌, ◌+◌, sym, subst, arith}
-use Rattle.critical.specs.Reports.{Reports, list_of}
-use Rattle.planner.specs.Inside.{StepIs, KeptIs, EndIs}
-use Rattle.planner.specs.declared.search.End.{End}
-use Rattle.planner.specs.declared.search.Kept.{Kept}
-use Rattle.planner.specs.declared.search.Step.TheVariants.{Ends, Goes}
+use Rattle.std.proofs.Common.{◌+◌, sym, subst, arith}
+use Rattle.planner.specs.Inside.{reports_in}
 use Rattle.planner.proofs.Building.{Building, builds_from_nothing, builds_on, builds_all}
 use Rattle.planner.proofs.blocks.blocks.Goals as goal
 
--- what a step that goes on keeps, and the end that another has found
-kept : {ℓ : Reports} {s p : ℕ} (n : ℕ) {k : Kept} → StepIs ℓ s p n (Goes k) → KeptIs ℓ s p k × (k.next ≡ n + 1)
-unfolding StepIs
-kept n h = h
-
-found : {ℓ : Reports} {s p : ℕ} (n : ℕ) {e : End} → StepIs ℓ s p n (Ends e) → EndIs ℓ s p e
-unfolding StepIs
-found n h = h
-
 pub loop-first-init : goal.loop-first-init
-loop-first-init c = let a = c.args in builds_from_nothing a.arrivals.now a.deadlines.now a.operations.now c.requires.fair a.rows.now c.requires.room
+loop-first-init c = builds_from_nothing c.args.fair c.args.rows.now c.requires
 
 pub search-smaller : goal.search-smaller
 search-smaller c =
     let i = c.search.invariant in
-    omega (arith, (kept _ c.in-Goes.ensures).1, i.kept_in.upto, i.kept_in.stretch.on_list)
+    omega (arith, c.in-Continue.ensures.1, i.kept_in.upto, i.kept_in.stretch.on_list)
 
 pub search-preserved : goal.search-preserved
-search-preserved c = (kept _ c.in-Goes.ensures).0
+search-preserved c = c.in-Continue.ensures.0
 
 pub overflow_cast-row-in-loop-first : goal.overflow_cast-row-in-loop-first
 overflow_cast-row-in-loop-first c =
-    let e = found _ c.in-Ends.ensures in
-    omega (arith, e.on, e.stretch.on_list, c.requires.fair.few)
+    let e = c.in-Break.ensures in
+    omega (arith, e.on, e.stretch.on_list, c.args.fair.fair.few)
 
 pub overflow_add-first : goal.overflow_add-first
 overflow_add-first c =
-    let e = found _ c.in-Ends.ensures in
-    omega (arith, e.on, e.stretch.on_list, c.requires.fair.few)
+    let e = c.in-Break.ensures in
+    omega (arith, e.on, e.stretch.on_list, c.args.fair.fair.few)
 
 pub loop-first-smaller : goal.loop-first-smaller
-loop-first-smaller c = omega (arith, (found _ c.in-Ends.ensures).from, c.loop-first-test.true)
+loop-first-smaller c = omega (arith, c.in-Break.ensures.from, c.loop-first-test.true)
 
 pub loop-first-preserved : goal.loop-first-preserved
 loop-first-preserved c =
     let a = c.args in
     let l = c.loop-first in
-    let e = c.in-Ends.end in
-    subst (Building (list_of a.arrivals.now a.deadlines.now a.operations.now) a.rows.now (l.count + 1) (e.last + 1) e.time) (sym c.put_row.ensures)
-    (builds_on a.arrivals.now a.deadlines.now a.operations.now c.requires.fair a.rows.now c.requires.room l.count l.first l.ended c.later-from.result l.rows l.invariant e (found _ c.in-Ends.ensures) c.later-from.ensures c.loop-first-test.true)
+    let e = c.in-Break.end in
+    subst (Building (reports_in a.fair.list) a.rows.now (l.count + 1) (e.last + 1) e.time) (sym c.put_row.ensures)
+    (builds_on a.fair a.rows.now c.requires l.count l.first l.ended _ l.rows l.invariant e c.in-Break.ensures c.max-from.ensures c.loop-first-test.true)
 
 pub returns : goal.returns
-returns c = let a = c.args in builds_all a.arrivals.now a.deadlines.now a.operations.now c.requires.fair a.rows.now c.requires.room _ _ _ _ c.loop-first.invariant c.loop-first-test.false
+returns c = builds_all c.args.fair c.args.rows.now c.requires _ _ _ _ c.loop-first.invariant c.loop-first-test.false

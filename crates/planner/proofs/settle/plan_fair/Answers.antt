@@ -1,14 +1,19 @@
 -- The pass ends on the list, and rule 9 is given; or behind it, and the rows are written.
-use Rattle.critical.specs.Reports.{list_of}
-use Rattle.planner.proofs.Outcomes.{refuses_nine, plans_all}
+use Rattle.std.proofs.Common.{[], ◌∷◌}
+use Rattle.trials.proofs.Trying.{passed}
+use Rattle.rules.specs.Offsets.{pace_of}
+use Rattle.rules.specs.Rules.{plan_rule}
+use Rattle.planner.specs.Inside.{reports_in}
+use Rattle.planner.proofs.Outcomes.{handed_up, nine, plans_all}
 use Rattle.planner.proofs.settle.plan_fair.Goals as goal
 
-pub returns-then-without-arrivals : goal.returns-then-without-arrivals
-returns-then-without-arrivals c =
-    let a = c.args in
-    refuses_nine (list_of a.arrivals.now a.deadlines.now a.operations.now) a.terms c.requires.pace a.rows.now c.first_without-without.result c.first_without-without.ensures c.if-without-arrivals.true
+pub returns-in_err-refuse_at : goal.returns-in_err-refuse_at
+returns-in_err-refuse_at c =
+    let fair = c.args.fair in
+    let ℓ = reports_in fair.list in
+    handed_up ℓ (pace_of fair.list.terms) c.args.rows.now (plan_rule ℓ (pace_of fair.list.terms) ∷ []) [] c.from_residual.result (nine c.first_without.ensures c.refuse_at.ensures) c.in_err-refuse_at.was c.from_residual.ensures
 
 pub returns : goal.returns
 returns c =
-    let a = c.args in
-    plans_all (list_of a.arrivals.now a.deadlines.now a.operations.now) a.terms c.requires.pace a.rows.now c.first_without-without.result c.blocks-2.result _ c.first_without-without.ensures c.if-without-arrivals.false c.blocks-2.ensures
+    let fair = c.args.fair in
+    plans_all (reports_in fair.list) fair.list.terms fair.paced c.args.rows.now _ _ (passed (nine c.first_without.ensures c.refuse_at.ensures) c.in_ok-refuse_at.was) c.blocks-2.ensures
