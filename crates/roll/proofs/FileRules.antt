@@ -1,7 +1,7 @@
 -- The file rules: what they leave where none is given, and the trailer's answer by them.
 -- Assumes nothing.
 use Prim.Native.Nat.{ℕ, ◌+◌, ◌*◌, ◌≤◌, ◌<◌}
-use mathlib.Core.Path.{◌≡◌, refl, ap, subst, subst₂}
+use mathlib.Core.Path.{◌≡◌, refl, subst, subst₂}
 use mathlib.Core.Bool.{Bool, true}
 use mathlib.Core.List.{List, [], ◌∷◌}
 use native.Mathlib.Omega.{arith}
@@ -21,7 +21,7 @@ use Rattle.fraction.proofs.Scale.{cases}
 use Rattle.roll.specs.Format.{mark, ends_in, has_floor, trailer_long, back_of, count_of, records_at, records_long, short_rule, back_rule, far_rule, trailer_rules, file_rules}
 use Rattle.roll.specs.Answers.{PartFrom, PartIs, TrailerAnswerIs, EndingIs}
 use Rattle.roll.specs.declared.Ending.{Ending}
-use Rattle.roll.proofs.Marking.{with_floor, without_floor, trailer_range, plain_mark}
+use Rattle.roll.proofs.Marking.{with_floor, without_floor, plain_mark}
 
 -- ---- what an accepted file says, with a trailer of so many bytes
 pub record FileIs (s : List ℕ) (trailer : ℕ) : Type 0 where
@@ -80,8 +80,8 @@ trailer_refused r = r
 
 -- ---- the part with the records
 -- it is inside the roll
-pub fits_part : (s : List ℕ) {count : ℕ} → Accepted (file_rules s) → count ≡ count_of s → records_at s + 12 * count ≤ length s
-fits_part s a e = let f = file_is s (record { accepted = a }) in omega (arith, f.back_is, f.back_in, e)
+pub fits_part : (s : List ℕ) → Accepted (file_rules s) → records_at s + records_long s ≤ length s
+fits_part s a = let f = file_is s (record { accepted = a }) in omega (arith, f.back_is, f.back_in)
 
 -- it begins where the trailer says
 pub reaches : (s : List ℕ) → Accepted (file_rules s) → back_of s ≤ length s

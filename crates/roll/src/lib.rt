@@ -5,17 +5,15 @@
 use answers::{Answer, Refusal};
 use fraction::Pace;
 use opened::Opened;
-use planner::plan;
-use rules::{ReportList, Roll};
+use rules::Roll;
 
 mod bytes;
 mod marks;
 mod opened;
 
-ghost use Rattle.std.specs.Prelude.{◌≡◌, ◌*◌, ◌≤◌, length};
+ghost use Rattle.std.specs.Prelude.{◌≡◌};
 ghost use Rattle.answers.specs.Numbers.{number, number_of, place_of, blocks_of};
-ghost use Rattle.planner.specs.Outcome.{PlanOutcome};
-ghost use Rattle.roll.specs.Format.{input_in, RollOutcome};
+ghost use Rattle.roll.specs.Format.{RollOutcome};
 ghost use Rattle.roll.specs.Answers.{TrailerAnswerIs, floor_numbers, NumbersIs, PartFrom, PartIs, numbers_refused};
 
 // The numbers that every trailer has: the record count, and the terms that the list comes with.
@@ -163,32 +161,6 @@ pub fn read<'a>(file: &'a [u8]) -> Reading<'a>
             part: no_part(file),
         },
     }
-}
-
-// Plans the first count records of a part.
-fn plan_records(
-    part: &[u8],
-    count: usize,
-    terms: Roll,
-    floor: Option<Pace>,
-    rows: &mut [u32],
-) -> Answer
-    requires { (12 * count ≤ length part.now) × (count ≤ 1024) }
-    ensures { PlanOutcome (input_in part.now count terms floor rows.old) (number_of result) (place_of result) (blocks_of result) rows.new }
-{
-    let mut arrivals = [0u32; Roll::REPORTS];
-    let mut deadlines = [0u32; Roll::REPORTS];
-    let mut operations = [0u32; Roll::REPORTS];
-    bytes::column(part, count, 0, &mut arrivals);
-    bytes::column(part, count, 4, &mut deadlines);
-    bytes::column(part, count, 8, &mut operations);
-    let list = ReportList {
-        arrivals: &arrivals[..count],
-        deadlines: &deadlines[..count],
-        operations: &operations[..count],
-        terms,
-    };
-    plan(list, floor, rows)
 }
 
 // Plans the list in a roll, by all the rules, file rules first. What comes back, and what the row

@@ -58,6 +58,13 @@ impl Ended<'_> {
         bytes::u32_at(self.file, self.file.len() - Trailer::BYTES) as usize
     }
 
+    // The record count.
+    pub fn count(self) -> u32
+        ensures { result ≡ count_of self.entry.file.now }
+    {
+        bytes::u16_at(self.file, self.file.len() - 8)
+    }
+
     // The trailer's numbers.
     pub fn trailer(self) -> Trailer
         ensures { TrailerIs self.entry.file.now result }
@@ -67,7 +74,7 @@ impl Ended<'_> {
         let p = bytes::u16_at(self.file, n - 6);
         let q = bytes::u16_at(self.file, n - 4);
         Trailer {
-            count: bytes::u16_at(self.file, n - 8),
+            count: self.count(),
             terms: Roll { reference, p, q },
         }
     }
@@ -76,8 +83,7 @@ impl Ended<'_> {
     fn bad_back(self) -> bool
         ensures { Tells (back_of self.entry.file.now ≡ trailer_long self.entry.file.now + 12 * count_of self.entry.file.now → ⊥) result }
     {
-        let count = bytes::u16_at(self.file, self.file.len() - 8) as usize;
-        self.back() != self.trailer_bytes() + Trailer::RECORD * count
+        self.back() != self.trailer_bytes() + Trailer::RECORD * self.count() as usize
     }
 
     // Whether the back distance exceeds the roll's length.
