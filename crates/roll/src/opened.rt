@@ -77,12 +77,14 @@ impl<'a> Opened<'a> {
         ensures { NumbersIs self.entry.roll.file.now result }
     {
         let ending = self.ending();
+        let at = self.records_at();
+        let size = self.records_long();
         Numbers {
             refusal: 0,
             trailer: ending.trailer,
             floor: FloorNumbers::from(ending.floor),
-            at: self.records_at(),
-            size: self.records_long(),
+            at,
+            size,
         }
     }
 

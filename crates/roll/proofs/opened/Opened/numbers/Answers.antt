@@ -13,6 +13,6 @@ returns c =
       refusal_is = refl;
       trailer_is = e.trailer_is;
       floor_is = c.from.ensures ∙ ap (λ (x : Option Pace). floor_numbers x) e.floor_is;
-      at_is = c.records_at.ensures;
-      size_is = c.records_long.ensures;
+      at_is = c.records_at-at.ensures;
+      size_is = c.records_long-size.ensures;
     })
