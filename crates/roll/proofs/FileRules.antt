@@ -88,8 +88,8 @@ pub reaches : (s : List ℕ) → Accepted (file_rules s) → back_of s ≤ lengt
 reaches s a = (file_is s (record { accepted = a })).back_in
 
 -- the part that the code cuts out is the one with the records
-pub cut_part : {s part : Bor (List ℕ)} (at size : ℕ) → Accepted (file_rules s.now) → at ≡ records_at s.now → size ≡ records_long s.now → PartFrom s at size part → PartIs s part
-cut_part {s} {part} at size a p q r = record {
+pub cut_part : {s part : Bor (List ℕ)} {at size : ℕ} → Accepted (file_rules s.now) → PartFrom s at size part → at ≡ records_at s.now → size ≡ records_long s.now → PartIs s part
+cut_part {s} {part} a r p q = record {
   accepted = λ _. subst₂ (λ (m n : ℕ). PartFrom s m n part) p q r;
   refused = λ number place h. absurd (not_refused (file_rules s.now) a number place h);
 }

@@ -1,5 +1,5 @@
 -- The part between the back distance and the trailer.
-use Rattle.std.proofs.Common.{◌≡◌, ◌+◌, ◌-◌, refl, ◌∙◌, arith}
+use Rattle.std.proofs.Common.{refl, arith}
 use Rattle.roll.proofs.FileRules.{fits_part, cut_part}
 use Rattle.roll.proofs.opened.Opened.part.Goals as goal
 
@@ -10,8 +10,4 @@ pub slice_bounds-result-end : goal.slice_bounds-result-end
 slice_bounds-result-end c = omega (arith, c.records_at-from.ensures, c.records_long.ensures, fits_part _ c.args.self.accepted)
 
 pub returns : goal.returns
-returns c =
-    let n = c.records_long.result in
-    let from = c.records_at-from.result in
-    let size : from + n - from ≡ n = omega arith in
-    cut_part from (from + n - from) c.args.self.accepted c.records_at-from.ensures (size ∙ c.records_long.ensures) (record { bytes = refl; lies = refl })
+returns c = cut_part c.args.self.accepted (record { bytes = refl; lies = refl }) (omega (arith, c.records_at-from.ensures)) (omega (arith, c.records_long.ensures))
