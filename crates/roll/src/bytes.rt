@@ -1,4 +1,5 @@
-// Little-endian numbers in bytes.
+// Little-endian numbers in bytes. For two bytes and for four there is a function each, as std has it: one
+// generic function would need a trait of ours over u16 and u32, with two impls, to say what it gives.
 ghost use Rattle.std.specs.Prelude.{◌≡◌, ◌+◌, ◌*◌, ◌≤◌, ◌<◌, length};
 ghost use Rattle.roll.specs.Format.{column_in, u16_at, u32_at};
 

@@ -14,7 +14,7 @@ mod opened;
 ghost use Rattle.std.specs.Prelude.{◌≡◌};
 ghost use Rattle.answers.specs.Numbers.{number, number_of, place_of, blocks_of};
 ghost use Rattle.roll.specs.Format.{RollOutcome};
-ghost use Rattle.roll.specs.Answers.{TrailerAnswerIs, floor_numbers, NumbersIs, PartFrom, PartIs, numbers_refused};
+ghost use Rattle.roll.specs.Answers.{TrailerAnswerIs, floor_numbers, NumbersIs, PartIs, numbers_refused};
 
 // The numbers that every trailer has: the record count, and the terms that the list comes with.
 #[repr(C)]
@@ -44,7 +44,8 @@ pub struct Ending {
     pub floor: Option<Pace>,
 }
 
-// A floor in numbers: 1, R and T where there is one; all 0 where there is none.
+// A floor in numbers: 1, R and T where there is one; all 0 where there is none. A flag, and no Option,
+// since C reads it.
 #[repr(C)]
 #[derive(Clone, Copy)]
 pub struct FloorNumbers {
@@ -53,7 +54,7 @@ pub struct FloorNumbers {
     pub t: u32,
 }
 
-// A floor in numbers: 1, R and T where there is one; all 0 where there is none.
+// A floor in numbers.
 impl From<Option<Pace>> for FloorNumbers {
     ghost from_gives = { λ floor numbers. numbers ≡ floor_numbers floor };
 
@@ -75,7 +76,7 @@ impl From<Option<Pace>> for FloorNumbers {
 
 // What is read of a roll, in numbers: the number of the refusal, 0 where there is none; the trailer's
 // numbers; those of the floor; and where the part with the records lies, and its size. On a refusal all
-// but its number are 0.
+// but its number are 0. A number, and no Result, and a place and a size, since C reads them.
 #[repr(C)]
 #[derive(Clone, Copy)]
 pub struct Numbers {
@@ -120,34 +121,7 @@ pub fn read_trailer(file: &[u8]) -> Result<Ending, Refusal>
     Ok(Opened::open(file)?.ending())
 }
 
-// What is read of a roll, in numbers.
-pub fn read_numbers(file: &[u8]) -> Numbers
-    ensures { NumbersIs file.now result }
-{
-    match Opened::open(file) {
-        Ok(roll) => roll.numbers(),
-        Err(refusal) => Numbers::from(refusal),
-    }
-}
-
-// No part of the bytes.
-fn no_part(file: &[u8]) -> &[u8]
-    ensures { PartFrom file.entry 0 0 result }
-{
-    &file[0..0]
-}
-
-// The part of the caller's bytes that holds the records, no copy; no bytes where the roll is refused.
-pub fn records(file: &[u8]) -> &[u8]
-    ensures { PartIs file.entry result }
-{
-    match Opened::open(file) {
-        Ok(roll) => roll.part(),
-        Err(_) => no_part(file),
-    }
-}
-
-// Reads a roll: the numbers, and the part with the records. A refusal ends the reading at once.
+// Reads a roll: the numbers, and the part with the records, no copy; no bytes where the roll is refused.
 pub fn read<'a>(file: &'a [u8]) -> Reading<'a>
     ensures { NumbersIs file.now result.numbers × PartIs file.entry result.part }
 {
@@ -158,9 +132,23 @@ pub fn read<'a>(file: &'a [u8]) -> Reading<'a>
         },
         Err(refusal) => Reading {
             numbers: Numbers::from(refusal),
-            part: no_part(file),
+            part: &file[0..0],
         },
     }
+}
+
+// What is read of a roll, in numbers.
+pub fn read_numbers(file: &[u8]) -> Numbers
+    ensures { NumbersIs file.now result }
+{
+    read(file).numbers
+}
+
+// The part of the caller's bytes that holds the records; no bytes where the roll is refused.
+pub fn records(file: &[u8]) -> &[u8]
+    ensures { PartIs file.entry result }
+{
+    read(file).part
 }
 
 // Plans the list in a roll, by all the rules, file rules first. What comes back, and what the row

@@ -51,7 +51,7 @@ impl Ended<'_> {
         }
     }
 
-    // The back distance.
+    // The back distance. (`as`, here and for the record count: usize is no From<u32>.)
     pub fn back(self) -> usize
         ensures { result ≡ back_of self.entry.file.now }
     {
@@ -107,8 +107,5 @@ impl Ended<'_> {
 pub fn short(file: &[u8]) -> bool
     ensures { Tells (length file.now < trailer_long file.now) result }
 {
-    if file.len() < Trailer::BYTES {
-        return true;
-    }
-    file.len() < Ended { file }.trailer_bytes()
+    file.len() < Trailer::BYTES || file.len() < Ended { file }.trailer_bytes()
 }

@@ -42,9 +42,10 @@ impl<'a> Opened<'a> {
             let n = self.roll.file.len();
             let ticks = bytes::u16_at(self.roll.file, n - Trailer::FLOOR_BYTES);
             let operations = bytes::u16_at(self.roll.file, n - 18);
-            return Some(Pace { ticks, operations });
+            Some(Pace { ticks, operations })
+        } else {
+            None
         }
-        None
     }
 
     // What the roll's end says.
