@@ -2,7 +2,7 @@
 // floor; and the numbers in it.
 ghost use Rattle.std.specs.Prelude.{◌≡◌, ◌+◌, ◌*◌, ◌≤◌, ◌<◌, length, Ok};
 ghost use Rattle.trials.specs.Tries.{Tells, After};
-ghost use Rattle.roll.specs.Format.{ends_in, has_floor, Marked, trailer_long, floor_of, back_of, count_of, trailer_rules};
+ghost use Rattle.roll.specs.Format.{ends_in, has_floor, Marked, trailer_long, back_of, count_of, trailer_rules};
 ghost use Rattle.roll.specs.Answers.{TrailerIs};
 
 use crate::{Trailer, bytes};
