@@ -12,6 +12,7 @@ use Rattle.answers.specs.Numbers.{number}
 use Rattle.answers.specs.declared.Fault.TheVariants.{ShortRoll}
 use Rattle.answers.specs.declared.Refusal.{Refusal}
 use Rattle.std.specs.Prelude.{Ok, Err}
+use Rattle.std.proofs.lemmas.List.{nil_from_length}
 use Rattle.trials.specs.Rules.{Accepted, Refuses}
 use Rattle.trials.specs.Tries.{Tells, Verdict, RefuseIf, After}
 use Rattle.trials.proofs.Passing.{Passed, Quiet, finding, heads, both, untrue}
@@ -95,8 +96,8 @@ cut_part {s} {part} a r p q = record {
 }
 
 -- on a refusal there is none
-pub refused_part : {s part : Bor (List ℕ)} {a : Refusal} → Refuses (file_rules s.now) a → PartFrom s 0 0 part → PartIs s part
-refused_part {s} {a = a} r p = record {
+pub refused_part : {s part : Bor (List ℕ)} {a : Refusal} → Refuses (file_rules s.now) a → length part.now ≡ 0 → part.ref_ptr ≡ (s.ref_ptr.0, 0 + s.ref_ptr.1) → PartIs s part
+refused_part {s} {part} {a} r none lies = record {
   accepted = λ q. absurd (not_refused (file_rules s.now) q (number a.fault) a.place r.refused);
-  refused = λ _ _ _. p;
+  refused = λ _ _ _. record { bytes = nil_from_length part.now none; lies = lies };
 }
