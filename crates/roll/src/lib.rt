@@ -122,6 +122,7 @@ pub fn read_trailer(file: &[u8]) -> Result<Ending, Refusal>
 }
 
 // Reads a roll: the numbers, and the part with the records, no copy; no bytes where the roll is refused.
+#[tactic(auto, using(crate::proofs::HandsBack::refused_numbers, crate::proofs::FileRules::refused_part))]
 pub fn read<'a>(file: &'a [u8]) -> Reading<'a>
     ensures { NumbersIs file.now result.numbers × PartIs file.entry result.part }
 {
