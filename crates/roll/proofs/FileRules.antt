@@ -1,7 +1,7 @@
 -- The file rules: what they leave where none is given, and the trailer's answer by them.
 -- Assumes nothing.
 use Prim.Native.Nat.{ℕ, ◌+◌, ◌*◌, ◌≤◌, ◌<◌}
-use mathlib.Core.Path.{◌≡◌, refl, ap, subst, subst₂}
+use mathlib.Core.Path.{◌≡◌, refl, subst, subst₂}
 use mathlib.Core.Bool.{Bool, true}
 use mathlib.Core.List.{List, [], ◌∷◌}
 use native.Mathlib.Omega.{arith}
@@ -12,6 +12,7 @@ use Rattle.answers.specs.Numbers.{number}
 use Rattle.answers.specs.declared.Fault.TheVariants.{ShortRoll}
 use Rattle.answers.specs.declared.Refusal.{Refusal}
 use Rattle.std.specs.Prelude.{Ok, Err}
+use Rattle.std.proofs.lemmas.List.{nil_from_length}
 use Rattle.trials.specs.Rules.{Accepted, Refuses}
 use Rattle.trials.specs.Tries.{Tells, Verdict, RefuseIf, After}
 use Rattle.trials.proofs.Passing.{Passed, Quiet, finding, heads, both, untrue}
@@ -21,7 +22,7 @@ use Rattle.fraction.proofs.Scale.{cases}
 use Rattle.roll.specs.Format.{mark, ends_in, has_floor, trailer_long, back_of, count_of, records_at, records_long, short_rule, back_rule, far_rule, trailer_rules, file_rules}
 use Rattle.roll.specs.Answers.{PartFrom, PartIs, TrailerAnswerIs, EndingIs}
 use Rattle.roll.specs.declared.Ending.{Ending}
-use Rattle.roll.proofs.Marking.{with_floor, without_floor, trailer_range, plain_mark}
+use Rattle.roll.proofs.Marking.{with_floor, without_floor, plain_mark}
 
 -- ---- what an accepted file says, with a trailer of so many bytes
 pub record FileIs (s : List ℕ) (trailer : ℕ) : Type 0 where
@@ -80,23 +81,23 @@ trailer_refused r = r
 
 -- ---- the part with the records
 -- it is inside the roll
-pub fits_part : (s : List ℕ) {count : ℕ} → Accepted (file_rules s) → count ≡ count_of s → records_at s + 12 * count ≤ length s
-fits_part s a e = let f = file_is s (record { accepted = a }) in omega (arith, f.back_is, f.back_in, e)
+pub fits_part : (s : List ℕ) → Accepted (file_rules s) → records_at s + records_long s ≤ length s
+fits_part s a = let f = file_is s (record { accepted = a }) in omega (arith, f.back_is, f.back_in)
 
 -- it begins where the trailer says
 pub reaches : (s : List ℕ) → Accepted (file_rules s) → back_of s ≤ length s
 reaches s a = (file_is s (record { accepted = a })).back_in
 
 -- the part that the code cuts out is the one with the records
-pub cut_part : {s part : Bor (List ℕ)} (at size : ℕ) → Accepted (file_rules s.now) → at ≡ records_at s.now → size ≡ records_long s.now → PartFrom s at size part → PartIs s part
-cut_part {s} {part} at size a p q r = record {
+pub cut_part : {s part : Bor (List ℕ)} {at size : ℕ} → Accepted (file_rules s.now) → PartFrom s at size part → at ≡ records_at s.now → size ≡ records_long s.now → PartIs s part
+cut_part {s} {part} a r p q = record {
   accepted = λ _. subst₂ (λ (m n : ℕ). PartFrom s m n part) p q r;
   refused = λ number place h. absurd (not_refused (file_rules s.now) a number place h);
 }
 
 -- on a refusal there is none
-pub refused_part : {s part : Bor (List ℕ)} {a : Refusal} → Refuses (file_rules s.now) a → PartFrom s 0 0 part → PartIs s part
-refused_part {s} {a = a} r p = record {
+pub refused_part : {s part : Bor (List ℕ)} {a : Refusal} → Refuses (file_rules s.now) a → length part.now ≡ 0 → part.ref_ptr ≡ (s.ref_ptr.0, 0 + s.ref_ptr.1) → PartIs s part
+refused_part {s} {part} {a} r none lies = record {
   accepted = λ q. absurd (not_refused (file_rules s.now) q (number a.fault) a.place r.refused);
-  refused = λ _ _ _. p;
+  refused = λ _ _ _. record { bytes = nil_from_length part.now none; lies = lies };
 }

@@ -1,15 +1,14 @@
 -- The numbers that the reader hands back, by the trailer's answer.
 -- Assumes nothing.
 use Prim.Native.Nat.{ℕ}
-use mathlib.Core.Path.{◌≡◌, refl, ap, ◌∙◌}
+use mathlib.Core.Path.{◌≡◌, ap, ◌∙◌}
 use mathlib.Core.List.{List}
-use native.Mathlib.Omega.{arith}
 use Rattle.answers.specs.Numbers.{number}
 use Rattle.answers.specs.declared.Refusal.{Refusal}
 use Rattle.trials.specs.Rules.{Accepted, Refuses}
 use Rattle.trials.proofs.Single.{one_refusal, not_refused}
 use Rattle.roll.specs.Format.{file_rules}
-use Rattle.roll.specs.Answers.{floor_numbers, NumbersRead, NumbersIs, numbers_refused}
+use Rattle.roll.specs.Answers.{NumbersRead, NumbersIs, numbers_refused}
 use Rattle.roll.specs.declared.Numbers.{Numbers}
 use Rattle.roll.proofs.OneResult.{single_file}
 

@@ -12,9 +12,8 @@ use lib.ListN.{length, get_or, drop}
 use lib.Pointwise.{pointwise}
 use lib.Seq.{drop-cons, drop-length}
 use Rattle.std.specs.List.{ends_with}
+use Rattle.std.proofs.Math.Bool.{and-true}
 use borrow.Author.Tests.{eqb-true, eq-eqb, ne_eqb}
-use Rattle.trials.specs.Tries.{Tells}
-use Rattle.trials.proofs.Trying.{tells_yes}
 use Rattle.trials.proofs.Deciding.{Decidable}
 use Rattle.fraction.proofs.Scale.{cases}
 use Rattle.std.specs.Prelude.{None, Some}
@@ -25,18 +24,12 @@ last_two : (s : List ℕ) → 2 ≤ length s → drop (length s - 2) s ≡ get_o
 last_two s h =
     let one : suc (length s - 2) ≡ length s - 1 = omega arith in
     let none : suc (length s - 1) ≡ length s = omega arith in
-    drop-cons s (length s - 2) 0 (omega arith)
-    ∙ ap (λ (k : ℕ). get_or s (length s - 2) 0 ∷ drop k s) one
-    ∙ ap (λ (l : List ℕ). get_or s (length s - 2) 0 ∷ l) (drop-cons s (length s - 1) 0 (omega arith))
-    ∙ ap (λ (k : ℕ). get_or s (length s - 2) 0 ∷ get_or s (length s - 1) 0 ∷ drop k s) none
-    ∙ ap (λ (l : List ℕ). get_or s (length s - 2) 0 ∷ get_or s (length s - 1) 0 ∷ l) (drop-length s)
+    let first = drop-cons s (length s - 2) 0 (omega arith) in
+    let second = drop-cons s (length s - 1) 0 (omega arith) in
+    rw (first, one, second, none, drop-length s)
 
 eqb_comm : (a b : ℕ) → eqb a b ≡ eqb b a
-eqb_comm a b = elim (ℕ_discrete a b) [ yes e ↦ eq-eqb _ _ e ∙ sym (eq-eqb _ _ (sym e)) | no h ↦ ne_eqb _ _ h ∙ sym (ne_eqb _ _ (λ q. h (sym q))) ]
-
-and_true : (b : Bool) → (b && true) ≡ b
-and_true true = refl
-and_true false = refl
+eqb_comm a b = elim (ℕ_discrete a b) [ yes e ↦ ap₂ (λ (x y : ℕ). eqb x y) e (sym e) | no h ↦ ne_eqb _ _ h ∙ sym (ne_eqb _ _ (λ q. h (sym q))) ]
 
 -- what a comparison of the whole mark at once gives
 pub ends_with_mark : (s m : List ℕ) → 16 ≤ length s → length m ≡ 2 → ends_with eqb s m ≡ ends_in s m
@@ -45,22 +38,16 @@ ends_with_mark s (a ∷ b ∷ []) h e =
     let x = get_or s (length s - 2) 0 in
     let y = get_or s (length s - 1) 0 in
     ap (λ (l : List ℕ). pointwise eqb (a ∷ b ∷ []) l) (last_two s (omega arith))
-    ∙ ap₂ (λ (p q : Bool). p && q) (eqb_comm a x) (and_true (eqb b y) ∙ eqb_comm b y)
+    ∙ ap₂ (λ (p q : Bool). p && q) (eqb_comm a x) (and-true (eqb b y) ∙ eqb_comm b y)
 ends_with_mark s [] h e = absurd (omega (arith, e))
 ends_with_mark s (a ∷ []) h e = absurd (omega (arith, e))
 ends_with_mark s (a ∷ b ∷ c ∷ m) h e = absurd (omega (arith, e))
 
+-- ---- and byte by byte
 module _ (s m : List ℕ) where
-  pub ends_first : (get_or s (length s - 2) 0 ≡ get_or m 0 0 → ⊥) → false ≡ ends_in s m
-  unfolding ends_in
-  ends_first h = sym (ap (λ (b : Bool). b && eqb (get_or s (length s - 1) 0) (get_or m 1 0)) (ne_eqb _ _ h))
-
-  pub ends_second : get_or s (length s - 2) 0 ≡ get_or m 0 0 → eqb (get_or s (length s - 1) 0) (get_or m 1 0) ≡ ends_in s m
-  unfolding ends_in
-  ends_second e = sym (ap (λ (b : Bool). b && eqb (get_or s (length s - 1) 0) (get_or m 1 0)) (eq-eqb _ _ e))
-
   pub ends_in_true : get_or s (length s - 2) 0 ≡ get_or m 0 0 → get_or s (length s - 1) 0 ≡ get_or m 1 0 → ends_in s m ≡ true
-  ends_in_true e e' = sym (ends_second e) ∙ eq-eqb _ _ e'
+  unfolding ends_in
+  ends_in_true e e' = ap₂ (λ (a b : Bool). a && b) (eq-eqb _ _ e) (eq-eqb _ _ e')
 
   pub its_bytes : ends_in s m ≡ true → (get_or s (length s - 2) 0 ≡ get_or m 0 0) × (get_or s (length s - 1) 0 ≡ get_or m 1 0)
   unfolding ends_in
@@ -105,15 +92,9 @@ module _ (s : List ℕ) where
       go true f = absurd (omega (arith, (its_bytes s _ e).1, (its_bytes s _ f).1))
       go false f = f
 
-  -- ---- the test of rule 11
-  pub not_unmarked : Marked s → Tells (Marked s → ⊥) false
-  not_unmarked m = record { yes = λ e. absurd (true≢false (sym e)); no = λ _ n. n m }
-
+  -- ---- neither mark
   pub neither : ends_in s mark ≡ false → has_floor s ≡ false → Marked s → ⊥
   neither e f m = ⊎_elim (λ g. true≢false (sym g ∙ e)) (λ g. true≢false (sym g ∙ f)) m.is
-
-  pub is_unmarked : ends_in s mark ≡ false → has_floor s ≡ false → Tells (Marked s → ⊥) true
-  is_unmarked e f = tells_yes (neither e f)
 
 unfoldable pub dec_marked : {s : List ℕ} → Decidable (Marked s)
 dec_marked {s} = record { decided = go (ends_in s mark) refl (has_floor s) refl }

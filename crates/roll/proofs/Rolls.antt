@@ -91,13 +91,14 @@ module _ (s buffer : List ℕ) where
         (subst (λ (a : Roll). PlanOutcome (input_in part t.count a (floor_of s) buffer) number place blocks after) g.trailer_is.terms_is
         (subst (λ (a : Option Pace). PlanOutcome (input_in part t.count t.terms a buffer) number place blocks after) g.floor_is o))))
 
--- ---- lists for columns
-pub same_lists :
-    (xs ys ws xs' ys' ws' : List ℕ) (terms : Roll) (floor : Option Pace) (buffer : List ℕ) (number place blocks : ℕ) (after : List ℕ) →
-    xs ≡ xs' → ys ≡ ys' → ws ≡ ws' →
+-- ---- lists that are the columns of a part
+pub planned_columns :
+    (part xs ys ws : List ℕ) (count k : ℕ) (terms : Roll) (floor : Option Pace) (buffer : List ℕ) (number place blocks : ℕ) (after : List ℕ) → k ≡ count →
+    xs ≡ column_in part k 0 → ys ≡ column_in part k 4 → ws ≡ column_in part k 8 →
     PlanOutcome (record { arrivals = xs; deadlines = ys; operations = ws; terms = terms; floor = floor; buffer = buffer }) number place blocks after →
-    PlanOutcome (record { arrivals = xs'; deadlines = ys'; operations = ws'; terms = terms; floor = floor; buffer = buffer }) number place blocks after
-same_lists xs ys ws xs' ys' ws' terms floor buffer number place blocks after e e' e'' o =
-    subst (λ (a : List ℕ). PlanOutcome (record { arrivals = a; deadlines = ys'; operations = ws'; terms = terms; floor = floor; buffer = buffer }) number place blocks after) e
-    (subst (λ (a : List ℕ). PlanOutcome (record { arrivals = xs; deadlines = a; operations = ws'; terms = terms; floor = floor; buffer = buffer }) number place blocks after) e'
-    (subst (λ (a : List ℕ). PlanOutcome (record { arrivals = xs; deadlines = ys; operations = a; terms = terms; floor = floor; buffer = buffer }) number place blocks after) e'' o))
+    PlanOutcome (input_in part count terms floor buffer) number place blocks after
+planned_columns part xs ys ws count k terms floor buffer number place blocks after c e e' e'' o =
+    subst (λ (n : ℕ). PlanOutcome (input_in part n terms floor buffer) number place blocks after) c
+    (subst (λ (a : List ℕ). PlanOutcome (record { arrivals = a; deadlines = column_in part k 4; operations = column_in part k 8; terms = terms; floor = floor; buffer = buffer }) number place blocks after) e
+    (subst (λ (a : List ℕ). PlanOutcome (record { arrivals = xs; deadlines = a; operations = column_in part k 8; terms = terms; floor = floor; buffer = buffer }) number place blocks after) e'
+    (subst (λ (a : List ℕ). PlanOutcome (record { arrivals = xs; deadlines = ys; operations = a; terms = terms; floor = floor; buffer = buffer }) number place blocks after) e'' o)))

@@ -1,5 +1,6 @@
-// Little-endian numbers in bytes.
-ghost use Rattle.std.specs.Prelude.{◌≡◌, ◌+◌, ◌*◌, ◌≤◌, ◌<◌, length, take};
+// Little-endian numbers in bytes. For two bytes and for four there is a function each, as std has it: one
+// generic function would need a trait of ours over u16 and u32, with two impls, to say what it gives.
+ghost use Rattle.std.specs.Prelude.{◌≡◌, ◌+◌, ◌*◌, ◌≤◌, ◌<◌, length};
 ghost use Rattle.roll.specs.Format.{column_in, u16_at, u32_at};
 
 use crate::Trailer;
@@ -20,12 +21,12 @@ pub fn u32_at(s: &[u8], at: usize) -> u32
     u32::from_le_bytes([s[at], s[at + 1], s[at + 2], s[at + 3]])
 }
 
-// One number of each of the first count records, at a place of the record, at the front of out.
-pub fn column(part: &[u8], count: usize, at: usize, out: &mut [u32])
-    requires { (12 * count ≤ length part.now) × (count ≤ length out.old) × (at ≤ 8) }
-    ensures { take count out.new ≡ column_in part.now count at }
+// One number of each record of a part, at a place of the record: of as many records as out has numbers.
+pub fn column(part: &[u8], at: usize, out: &mut [u32])
+    requires { (12 * length out.old ≤ length part.now) × (at ≤ 8) }
+    ensures { out.new ≡ column_in part.now (length out.old) at }
 {
-    for (i, number) in out[..count].iter_mut().enumerate() {
+    for (i, number) in out.iter_mut().enumerate() {
         *number = u32_at(part, Trailer::RECORD * i + at);
     }
 }

@@ -5,18 +5,16 @@
 use answers::{Answer, Refusal};
 use fraction::Pace;
 use opened::Opened;
-use planner::plan;
-use rules::{ReportList, Roll};
+use rules::Roll;
 
 mod bytes;
 mod marks;
 mod opened;
 
-ghost use Rattle.std.specs.Prelude.{◌≡◌, ◌*◌, ◌≤◌, length};
+ghost use Rattle.std.specs.Prelude.{◌≡◌};
 ghost use Rattle.answers.specs.Numbers.{number, number_of, place_of, blocks_of};
-ghost use Rattle.planner.specs.Outcome.{PlanOutcome};
-ghost use Rattle.roll.specs.Format.{input_in, RollOutcome};
-ghost use Rattle.roll.specs.Answers.{TrailerAnswerIs, floor_numbers, NumbersIs, PartFrom, PartIs, numbers_refused};
+ghost use Rattle.roll.specs.Format.{RollOutcome};
+ghost use Rattle.roll.specs.Answers.{TrailerAnswerIs, floor_numbers, NumbersIs, PartIs, numbers_refused};
 
 // The numbers that every trailer has: the record count, and the terms that the list comes with.
 #[repr(C)]
@@ -46,7 +44,8 @@ pub struct Ending {
     pub floor: Option<Pace>,
 }
 
-// A floor in numbers: 1, R and T where there is one; all 0 where there is none.
+// A floor in numbers: 1, R and T where there is one; all 0 where there is none. A flag, and no Option,
+// since C reads it.
 #[repr(C)]
 #[derive(Clone, Copy)]
 pub struct FloorNumbers {
@@ -55,7 +54,7 @@ pub struct FloorNumbers {
     pub t: u32,
 }
 
-// A floor in numbers: 1, R and T where there is one; all 0 where there is none.
+// A floor in numbers.
 impl From<Option<Pace>> for FloorNumbers {
     ghost from_gives = { λ floor numbers. numbers ≡ floor_numbers floor };
 
@@ -77,7 +76,7 @@ impl From<Option<Pace>> for FloorNumbers {
 
 // What is read of a roll, in numbers: the number of the refusal, 0 where there is none; the trailer's
 // numbers; those of the floor; and where the part with the records lies, and its size. On a refusal all
-// but its number are 0.
+// but its number are 0. A number, and no Result, and a place and a size, since C reads them.
 #[repr(C)]
 #[derive(Clone, Copy)]
 pub struct Numbers {
@@ -122,34 +121,8 @@ pub fn read_trailer(file: &[u8]) -> Result<Ending, Refusal>
     Ok(Opened::open(file)?.ending())
 }
 
-// What is read of a roll, in numbers.
-pub fn read_numbers(file: &[u8]) -> Numbers
-    ensures { NumbersIs file.now result }
-{
-    match Opened::open(file) {
-        Ok(roll) => roll.numbers(),
-        Err(refusal) => Numbers::from(refusal),
-    }
-}
-
-// No part of the bytes.
-fn no_part(file: &[u8]) -> &[u8]
-    ensures { PartFrom file.entry 0 0 result }
-{
-    &file[0..0]
-}
-
-// The part of the caller's bytes that holds the records, no copy; no bytes where the roll is refused.
-pub fn records(file: &[u8]) -> &[u8]
-    ensures { PartIs file.entry result }
-{
-    match Opened::open(file) {
-        Ok(roll) => roll.part(),
-        Err(_) => no_part(file),
-    }
-}
-
-// Reads a roll: the numbers, and the part with the records. A refusal ends the reading at once.
+// Reads a roll: the numbers, and the part with the records, no copy; no bytes where the roll is refused.
+#[tactic(auto, using(crate::proofs::HandsBack::refused_numbers, crate::proofs::FileRules::refused_part))]
 pub fn read<'a>(file: &'a [u8]) -> Reading<'a>
     ensures { NumbersIs file.now result.numbers × PartIs file.entry result.part }
 {
@@ -160,35 +133,23 @@ pub fn read<'a>(file: &'a [u8]) -> Reading<'a>
         },
         Err(refusal) => Reading {
             numbers: Numbers::from(refusal),
-            part: no_part(file),
+            part: &file[0..0],
         },
     }
 }
 
-// Plans the first count records of a part.
-fn plan_records(
-    part: &[u8],
-    count: usize,
-    terms: Roll,
-    floor: Option<Pace>,
-    rows: &mut [u32],
-) -> Answer
-    requires { (12 * count ≤ length part.now) × (count ≤ 1024) }
-    ensures { PlanOutcome (input_in part.now count terms floor rows.old) (number_of result) (place_of result) (blocks_of result) rows.new }
+// What is read of a roll, in numbers.
+pub fn read_numbers(file: &[u8]) -> Numbers
+    ensures { NumbersIs file.now result }
 {
-    let mut arrivals = [0u32; Roll::REPORTS];
-    let mut deadlines = [0u32; Roll::REPORTS];
-    let mut operations = [0u32; Roll::REPORTS];
-    bytes::column(part, count, 0, &mut arrivals);
-    bytes::column(part, count, 4, &mut deadlines);
-    bytes::column(part, count, 8, &mut operations);
-    let list = ReportList {
-        arrivals: &arrivals[..count],
-        deadlines: &deadlines[..count],
-        operations: &operations[..count],
-        terms,
-    };
-    plan(list, floor, rows)
+    read(file).numbers
+}
+
+// The part of the caller's bytes that holds the records; no bytes where the roll is refused.
+pub fn records(file: &[u8]) -> &[u8]
+    ensures { PartIs file.entry result }
+{
+    read(file).part
 }
 
 // Plans the list in a roll, by all the rules, file rules first. What comes back, and what the row

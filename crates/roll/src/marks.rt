@@ -2,7 +2,7 @@
 // floor; and the numbers in it.
 ghost use Rattle.std.specs.Prelude.{◌≡◌, ◌+◌, ◌*◌, ◌≤◌, ◌<◌, length, Ok};
 ghost use Rattle.trials.specs.Tries.{Tells, After};
-ghost use Rattle.roll.specs.Format.{ends_in, has_floor, Marked, trailer_long, floor_of, back_of, count_of, trailer_rules};
+ghost use Rattle.roll.specs.Format.{ends_in, has_floor, Marked, trailer_long, back_of, count_of, trailer_rules};
 ghost use Rattle.roll.specs.Answers.{TrailerIs};
 
 use crate::{Trailer, bytes};
@@ -51,11 +51,18 @@ impl Ended<'_> {
         }
     }
 
-    // The back distance.
+    // The back distance. (`as`, here and for the record count: usize is no From<u32>.)
     pub fn back(self) -> usize
         ensures { result ≡ back_of self.entry.file.now }
     {
         bytes::u32_at(self.file, self.file.len() - Trailer::BYTES) as usize
+    }
+
+    // The record count.
+    pub fn count(self) -> u32
+        ensures { result ≡ count_of self.entry.file.now }
+    {
+        bytes::u16_at(self.file, self.file.len() - 8)
     }
 
     // The trailer's numbers.
@@ -67,7 +74,7 @@ impl Ended<'_> {
         let p = bytes::u16_at(self.file, n - 6);
         let q = bytes::u16_at(self.file, n - 4);
         Trailer {
-            count: bytes::u16_at(self.file, n - 8),
+            count: self.count(),
             terms: Roll { reference, p, q },
         }
     }
@@ -76,8 +83,7 @@ impl Ended<'_> {
     fn bad_back(self) -> bool
         ensures { Tells (back_of self.entry.file.now ≡ trailer_long self.entry.file.now + 12 * count_of self.entry.file.now → ⊥) result }
     {
-        let count = bytes::u16_at(self.file, self.file.len() - 8) as usize;
-        self.back() != self.trailer_bytes() + Trailer::RECORD * count
+        self.back() != self.trailer_bytes() + Trailer::RECORD * self.count() as usize
     }
 
     // Whether the back distance exceeds the roll's length.
@@ -101,8 +107,5 @@ impl Ended<'_> {
 pub fn short(file: &[u8]) -> bool
     ensures { Tells (length file.now < trailer_long file.now) result }
 {
-    if file.len() < Trailer::BYTES {
-        return true;
-    }
-    file.len() < Ended { file }.trailer_bytes()
+    file.len() < Trailer::BYTES || file.len() < Ended { file }.trailer_bytes()
 }

@@ -1,16 +1,18 @@
 // A roll that no file rule refuses, and what is read of it.
-ghost use Rattle.std.specs.Prelude.{◌≡◌, MatchResult};
+ghost use Rattle.std.specs.Prelude.{◌≡◌, ◌*◌, ◌≤◌, length, MatchResult};
 ghost use Rattle.answers.specs.Numbers.{number_of, place_of, blocks_of};
 ghost use Rattle.trials.specs.Rules.{Accepted, Refuses};
-ghost use Rattle.roll.specs.Format.{file_rules, floor_of, records_at, RollOutcome};
+ghost use Rattle.planner.specs.Outcome.{PlanOutcome};
+ghost use Rattle.roll.specs.Format.{file_rules, floor_of, records_at, records_long, input_in, RollOutcome};
 ghost use Rattle.roll.specs.Once.{Accepted-prop};
 ghost use Rattle.roll.specs.Answers.{EndingIs, NumbersIs, PartIs};
 
 use crate::marks::{Ended, short};
-use crate::{Ending, FloorNumbers, Numbers, Trailer, bytes, plan_records};
+use crate::{Ending, FloorNumbers, Numbers, Trailer, bytes};
 use answers::{Answer, Fault, Refusal};
 use fraction::Pace;
-use rules::count_rules;
+use planner::plan;
+use rules::{ReportList, Roll, count_rules};
 use trials::refuse_if;
 
 // A roll's bytes of which no file rule is given: all that is read of them is there.
@@ -40,9 +42,10 @@ impl<'a> Opened<'a> {
             let n = self.roll.file.len();
             let ticks = bytes::u16_at(self.roll.file, n - Trailer::FLOOR_BYTES);
             let operations = bytes::u16_at(self.roll.file, n - 18);
-            return Some(Pace { ticks, operations });
+            Some(Pace { ticks, operations })
+        } else {
+            None
         }
-        None
     }
 
     // What the roll's end says.
@@ -63,17 +66,26 @@ impl<'a> Opened<'a> {
         self.roll.file.len() - reach
     }
 
+    // How many bytes they are.
+    fn records_long(self) -> usize
+        ensures { result ≡ records_long self.entry.roll.file.now }
+    {
+        Trailer::RECORD * self.roll.count() as usize
+    }
+
     // What is read, in numbers.
     pub fn numbers(self) -> Numbers
         ensures { NumbersIs self.entry.roll.file.now result }
     {
         let ending = self.ending();
+        let at = self.records_at();
+        let size = self.records_long();
         Numbers {
             refusal: 0,
             trailer: ending.trailer,
             floor: FloorNumbers::from(ending.floor),
-            at: self.records_at(),
-            size: Trailer::RECORD * ending.trailer.count as usize,
+            at,
+            size,
         }
     }
 
@@ -82,7 +94,7 @@ impl<'a> Opened<'a> {
         ensures { PartIs self.entry.roll.file result }
     {
         let from = self.records_at();
-        let to = from + Trailer::RECORD * self.ending().trailer.count as usize;
+        let to = from + self.records_long();
         &self.roll.file[from..to]
     }
 
@@ -92,10 +104,39 @@ impl<'a> Opened<'a> {
         ensures { RollOutcome self.entry.roll.file.now rows.old (number_of result) (place_of result) (blocks_of result) rows.new }
     {
         let ending = self.ending();
-        let Trailer { count, terms } = ending.trailer;
-        let count = count as usize;
-        let floor = ending.floor;
-        count_rules(count, count, count, terms, floor, rows.len())?;
-        plan_records(self.part(), count, terms, floor, rows)
+        let count = ending.trailer.count as usize;
+        count_rules(
+            count,
+            count,
+            count,
+            ending.trailer.terms,
+            ending.floor,
+            rows.len(),
+        )?;
+        plan_records(self.part(), ending, rows)
     }
+}
+
+// Plans the list of a part, of which there are as many records as the roll's end says.
+fn plan_records(part: &[u8], ending: Ending, rows: &mut [u32]) -> Answer
+    requires { (12 * ending.trailer.count ≤ length part.now) × (ending.trailer.count ≤ 1024) }
+    ensures { PlanOutcome (input_in part.now ending.trailer.count ending.trailer.terms ending.floor rows.old) (number_of result) (place_of result) (blocks_of result) rows.new }
+{
+    let count = ending.trailer.count as usize;
+    let mut arrivals = [0; Roll::REPORTS];
+    let mut deadlines = [0; Roll::REPORTS];
+    let mut operations = [0; Roll::REPORTS];
+    let arrivals = &mut arrivals[..count];
+    let deadlines = &mut deadlines[..count];
+    let operations = &mut operations[..count];
+    bytes::column(part, 0, arrivals);
+    bytes::column(part, 4, deadlines);
+    bytes::column(part, 8, operations);
+    let list = ReportList {
+        arrivals,
+        deadlines,
+        operations,
+        terms: ending.trailer.terms,
+    };
+    plan(list, ending.floor, rows)
 }

@@ -14,5 +14,5 @@ pub returns-then-has_floor : goal.returns-then-has_floor
 returns-then-has_floor c =
     ap₂ (λ (r t : ℕ). Some (record { ticks = r; operations = t })) c.u16_at-ticks.ensures.0 c.u16_at-operations.ensures.0 ∙ sym (with_floor _ (sym c.has_floor.ensures ∙ c.if-has_floor.true)).1
 
-pub returns : goal.returns
-returns c = sym (without_floor _ (sym c.has_floor.ensures ∙ c.if-has_floor.false)).1
+pub returns-else-has_floor : goal.returns-else-has_floor
+returns-else-has_floor c = sym (without_floor _ (sym c.has_floor.ensures ∙ c.if-has_floor.false)).1

@@ -1,5 +1,5 @@
 -- The numbers of a roll that no file rule refuses.
-use Rattle.std.proofs.Common.{ℕ, refl, ap, ◌*◌, ◌∙◌}
+use Rattle.std.proofs.Common.{refl, ap, ◌∙◌}
 use Rattle.std.specs.Prelude.{Option}
 use Rattle.fraction.specs.declared.Pace.{Pace}
 use Rattle.roll.specs.Answers.{floor_numbers}
@@ -13,6 +13,6 @@ returns c =
       refusal_is = refl;
       trailer_is = e.trailer_is;
       floor_is = c.from.ensures ∙ ap (λ (x : Option Pace). floor_numbers x) e.floor_is;
-      at_is = c.records_at.ensures;
-      size_is = ap (λ (k : ℕ). 12 * k) e.trailer_is.count_is;
+      at_is = c.records_at-at.ensures;
+      size_is = c.records_long-size.ensures;
     })

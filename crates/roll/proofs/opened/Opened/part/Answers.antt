@@ -1,14 +1,13 @@
 -- The part between the back distance and the trailer.
-use Rattle.std.proofs.Common.{◌≡◌, ℕ, ◌+◌, ◌-◌, ◌*◌, refl, ap, ◌∙◌, arith}
+use Rattle.std.proofs.Common.{refl, arith}
 use Rattle.roll.proofs.FileRules.{fits_part, cut_part}
 use Rattle.roll.proofs.opened.Opened.part.Goals as goal
 
+pub overflow_add-to : goal.overflow_add-to
+overflow_add-to c = omega (arith, c.records_at-from.ensures, c.records_long.ensures, fits_part _ c.args.self.accepted)
+
 pub slice_bounds-result-end : goal.slice_bounds-result-end
-slice_bounds-result-end c = omega (arith, c.records_at-from.ensures, fits_part _ c.args.self.accepted c.ending.ensures.trailer_is.count_is)
+slice_bounds-result-end c = omega (arith, c.records_at-from.ensures, c.records_long.ensures, fits_part _ c.args.self.accepted)
 
 pub returns : goal.returns
-returns c =
-    let n = c.ending.result.trailer.count in
-    let from = c.records_at-from.result in
-    let size : from + 12 * n - from ≡ 12 * n = omega arith in
-    cut_part from (from + 12 * n - from) c.args.self.accepted c.records_at-from.ensures (size ∙ ap (λ (k : ℕ). 12 * k) c.ending.ensures.trailer_is.count_is) (record { bytes = refl; lies = refl })
+returns c = cut_part c.args.self.accepted (record { bytes = refl; lies = refl }) (omega (arith, c.records_at-from.ensures)) (omega (arith, c.records_long.ensures))

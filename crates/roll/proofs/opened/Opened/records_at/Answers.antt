@@ -4,4 +4,4 @@ use Rattle.roll.proofs.FileRules.{reaches}
 use Rattle.roll.proofs.opened.Opened.records_at.Goals as goal
 
 pub overflow_sub-result : goal.overflow_sub-result
-overflow_sub-result c = omega (arith, c.back-reach.ensures, reaches _ c.args.self.accepted)
+overflow_sub-result c = omega (arith, reaches _ c.args.self.accepted)
