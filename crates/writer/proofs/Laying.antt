@@ -5,7 +5,7 @@ use mathlib.Core.Path.{◌≡◌, refl, ◌∙◌, ap, ap₂, subst}
 use mathlib.Core.List.{List}
 use native.Mathlib.Omega.{arith}
 use lib.ListN.{length, get_or}
-use Rattle.std.specs.Int.{w16, w32, to_le_bytes}
+use Rattle.std.specs.Int.{w32, to_le_bytes}
 use Rattle.lists.specs.Puts.{Puts}
 use Rattle.lists.proofs.Putting.{puts_as, puts_to, puts_then, Turns, one_turn}
 use Rattle.roll.specs.Format.{mark}
@@ -14,9 +14,9 @@ use Rattle.writer.specs.Bytes.{le16, le32, record_bytes, records_up_to, roll_lon
 use Rattle.writer.specs.Inside.{RecordFits, RecordsFit}
 use Rattle.writer.proofs.Records.{fits_more}
 
--- ---- a number's bytes, as the machine's number gives them
-pub two_low : {b : List ℕ} {n m : ℕ} → b ≡ to_le_bytes w16 n → n ≡ m → b ≡ le16 m
-two_low {b} {n} {m} e f = let low : to_le_bytes w16 n ≡ le16 n = refl in e ∙ low ∙ ap le16 f
+-- ---- a number's bytes: those of an equal number; and its four, as the machine gives them
+pub low_of : {b : List ℕ} {n m : ℕ} → b ≡ le16 n → n ≡ m → b ≡ le16 m
+low_of e f = e ∙ ap le16 f
 
 pub four_low : {b : List ℕ} {n m : ℕ} → b ≡ to_le_bytes w32 n → n ≡ m → b ≡ le32 m
 four_low {b} {n} {m} e f =

@@ -14,7 +14,7 @@ ghost use Rattle.answers.specs.Numbers.{number_of, place_of};
 ghost use Rattle.lists.specs.Puts.{Puts};
 ghost use Rattle.trials.specs.Tries.{Tells, After};
 ghost use Rattle.rules.specs.Leaves.{Even};
-ghost use Rattle.writer.specs.Bytes.{listing, record_bytes, records_up_to, roll_long, trailer_bytes, roll_bytes, ReadsBack};
+ghost use Rattle.writer.specs.Bytes.{le16, listing, record_bytes, records_up_to, roll_long, trailer_bytes, roll_bytes, ReadsBack};
 ghost use Rattle.writer.specs.Writing.{write_rules, WriteOutcome, bytes_of, InBytes};
 ghost use Rattle.writer.specs.Inside.{RecordFits, RecordsFit};
 
@@ -103,6 +103,13 @@ fn write_rules(
     refuse_if(no_room(arrivals, at, room), Fault::NoRoom)
 }
 
+// The two low bytes of a number.
+fn low(n: u32) -> [u8; 2]
+    ensures { result ≡ le16 n }
+{
+    ((n & 0xffff) as u16).to_le_bytes()
+}
+
 // Writes a record at the front of a part.
 fn write_record(arrival: u32, deadline: u32, operations: u32, part: &mut [u8])
     requires { 12 ≤ length part.old }
@@ -136,7 +143,6 @@ fn write_records(list: ReportList<'_>, part: &mut [u8])
 fn write_trailer(trailer: Trailer, part: &mut [u8])
     requires room { 16 ≤ length part.old }
     requires few { trailer.count ≤ 1024 }
-    requires narrow { (trailer.terms.p ≤ 65535) × (trailer.terms.q ≤ 65535) }
     ensures puts { Puts part.old 0 (trailer_bytes trailer) 16 part.new }
     ensures reference_fits { trailer.terms.reference < 2 ^ 32 }
 {
@@ -144,9 +150,9 @@ fn write_trailer(trailer: Trailer, part: &mut [u8])
     let terms = trailer.terms;
     let at = put(&(back as u32).to_le_bytes(), part, 0);
     let at = put(&terms.reference.to_le_bytes(), part, at);
-    let at = put(&(trailer.count as u16).to_le_bytes(), part, at);
-    let at = put(&(terms.p as u16).to_le_bytes(), part, at);
-    let at = put(&(terms.q as u16).to_le_bytes(), part, at);
+    let at = put(&low(trailer.count), part, at);
+    let at = put(&low(terms.p), part, at);
+    let at = put(&low(terms.q), part, at);
     put(&Trailer::MARK, part, at);
 }
 
@@ -154,7 +160,6 @@ fn write_trailer(trailer: Trailer, part: &mut [u8])
 fn write_roll(list: ReportList<'_>, part: &mut [u8]) -> usize
     requires even { Even list.arrivals.now list.deadlines.now list.operations.now }
     requires few { length list.arrivals.now ≤ 1024 }
-    requires narrow { (list.terms.p ≤ 65535) × (list.terms.q ≤ 65535) }
     requires room { roll_long (length list.arrivals.now) ≤ length part.old }
     ensures puts { Puts part.old 0 (roll_bytes (listing list.entry)) result part.new }
     ensures records_fit { RecordsFit list.entry.arrivals.now list.entry.deadlines.now list.entry.operations.now (length list.entry.arrivals.now) }

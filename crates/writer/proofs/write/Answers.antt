@@ -24,9 +24,6 @@ write_roll-requires-clause-even c =
 pub write_roll-requires-clause-few : goal.write_roll-requires-clause-few
 write_roll-requires-clause-few c = (left (listing c.args.list) c.args.out.now c.args.at c.write_rules.ensures c.in_ok-write_rules.was).few
 
-pub write_roll-requires-clause-narrow : goal.write_roll-requires-clause-narrow
-write_roll-requires-clause-narrow c = let l = left (listing c.args.list) c.args.out.now c.args.at c.write_rules.ensures c.in_ok-write_rules.was in (l.p_most, l.q_most)
-
 pub write_roll-requires-clause-room : goal.write_roll-requires-clause-room
 write_roll-requires-clause-room c = let l = left (listing c.args.list) c.args.out.now c.args.at c.write_rules.ensures c.in_ok-write_rules.was in omega (arith, l.room)
 
