@@ -1,6 +1,6 @@
 -- Outcomes: a refusal stands whatever rules follow, a silence leaves it to them; rule 9 and the rows.
 -- Assumes nothing.
-use Rattle.std.proofs.Common.{◌≡◌, ℕ, zero, suc, ◌<◌, ◌≤◌, ◌⊎◌, List, [], ◌∷◌, ◌++◌, map, length, take, sym, refl, ap, ◌∙◌, subst, subst₂, inl, inr, ⊎_elim, arith}
+use Rattle.std.proofs.Common.{◌≡◌, ℕ, zero, suc, ◌<◌, ◌⊎◌, List, [], ◌∷◌, ◌++◌, sym, refl, subst, inl, inr, ⊎_elim, arith}
 use Rattle.std.specs.Prelude.{Option, Some, None, Ok, Err, IsErr, IsErrAnd}
 use Rattle.answers.specs.Numbers.{Answer, number, number_of, place_of, blocks_of}
 use Rattle.answers.specs.declared.Refusal.{Refusal}
@@ -12,16 +12,15 @@ use Rattle.trials.specs.Tries.{Verdict, refuse_at, RefuseAt, AfterIs, After}
 use Rattle.trials.proofs.Trying.{refused_first, refused_later, refuses_on}
 use Rattle.trials.proofs.Numbers.{refused_by_either}
 use Rattle.fraction.specs.Fraction.{Fraction, over}
-use Rattle.critical.specs.Reports.{Reports, list_of, Positive, Plannable, FirstWithout}
+use Rattle.critical.specs.Reports.{Reports, Positive, Plannable, FirstWithout}
 use Rattle.critical.specs.Rows.{plan_of}
 use Rattle.critical.proofs.Theorems.{room_decides, plan_or_refusal, not_both}
-use Rattle.rules.specs.Offsets.{offset, offsets_of, pace_of}
-use Rattle.rules.specs.Rules.{plan_rule, report_rules}
+use Rattle.rules.specs.Offsets.{pace_of}
+use Rattle.rules.specs.Rules.{plan_rule}
 use Rattle.planner.specs.Outcome.{row_at, RefusedBy, Outcome, Written}
-use Rattle.rules.specs.Leaves.{Sized, Paced}
+use Rattle.rules.specs.Leaves.{Paced}
 use Rattle.planner.specs.Inside.{PassEnds, BlocksIn}
 use Rattle.rules.specs.declared.Roll.{Roll}
-use Rattle.lists.proofs.Filling.{length-map}
 
 module _ (ℓ : Reports) (f : Fraction) (before : List ℕ) where
   refused : (rules : List Rule) (n place : ℕ) → 0 < n → Refused rules n place → Outcome rules ℓ f before n place 0 before

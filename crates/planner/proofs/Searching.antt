@@ -10,7 +10,6 @@ use Rattle.critical.proofs.Search.{Stretch, Scan, floor, floor_in, floor_end, st
 use Rattle.planner.specs.Inside.{reports_in, mark, Joins, FloorIs, MarkIs, KeptIn, KeptIs, Weighed, EndIs}
 use Rattle.planner.specs.declared.search.Mark.{Mark}
 use Rattle.planner.specs.declared.search.Kept.{Kept}
-use Rattle.planner.specs.declared.search.End.{End}
 use Rattle.planner.specs.declared.search.Search.{Search}
 
 -- the mark that a choice by `if` leaves

@@ -72,7 +72,7 @@ module _ (fair : FairList) where
   pass_begins = record { finished = refl; small = omega arith; timely = λ i h. absurd (not-suc-le-zero h) }
 
   -- one report more, from what the code computes: its finish and when it is due
-  module _ (i done finish due : ℕ) (so_far : Passing fair i done) (report : Report) (is : report ≡ report_in fair.list i) (finish_is : finish ≡ max (Q * report.arrival) done + report.operations * P) (due_is : due ≡ Q * report.deadline) where
+  module _ {i done finish due : ℕ} {report : Report} (so_far : Passing fair i done) (is : report ≡ report_in fair.list i) (finish_is : finish ≡ max (Q * report.arrival) done + report.operations * P) (due_is : due ≡ Q * report.deadline) where
     computed : finish ≡ max (Q * ℓ.arrival i) done + ℓ.operations i * P
     computed = finish_is ∙ ap (λ (r : Report). max (Q * r.arrival) done + r.operations * P) is
 
@@ -92,5 +92,5 @@ module _ (fair : FairList) where
       timely = timely_on ℓ P Q fair.paced.p_some fair.paced.q_some i so_far.timely (omega (arith, next, late, l));
     }
 
-  pub pass_ends : (i done : ℕ) → Passing fair i done → i ≡ ℓ.count → Plannable ℓ (over P Q)
-  pass_ends i done so_far e = passes ℓ P Q fair.paced.p_some fair.paced.q_some (subst (TimelyTo ℓ (over P Q)) e so_far.timely)
+  pub pass_ends : {i done : ℕ} → Passing fair i done → i ≡ ℓ.count → Plannable ℓ (over P Q)
+  pass_ends so_far e = passes ℓ P Q fair.paced.p_some fair.paced.q_some (subst (TimelyTo ℓ (over P Q)) e so_far.timely)

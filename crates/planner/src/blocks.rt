@@ -21,7 +21,10 @@ fn put_row(rows: &mut [u32], k: usize, row: Row)
     }
 }
 
-// Finds the blocks of the list, writes their rows and returns how many there are.
+// Finds the blocks of the list, writes their rows and returns how many there are. The rows stand in the
+// caller's buffer with their number beside it: the buffer is lent through C, and there is no heap. The
+// outer loop counts nothing: each turn goes on behind the block that it found. The search stands inside it
+// and is left with the block's end, as 01 asks for.
 pub fn blocks(fair: FairList<'_>, rows: &mut [u32]) -> usize
     requires { width * length fair.list.arrivals.now ≤ length rows.old }
     ensures { BlocksIn (reports_in fair.entry.list) rows.old result rows.new }

@@ -1,9 +1,10 @@
-// A list that has passed rules 1 to 8: what the functions behind them take.
+// A list that is in order: what the functions behind rules 1 to 8 take.
 ghost use Rattle.rules.specs.Leaves.{Fair, Paced};
 
 use rules::{Report, ReportList};
 
 // A list of offsets and operations, with the terms that it comes with, in order by rules 1, 2 and 4 to 7.
+// A number of each report stands in each of three slices, as the caller lends them.
 #[derive(Clone, Copy)]
 pub struct FairList<'a> {
     pub list: ReportList<'a>,

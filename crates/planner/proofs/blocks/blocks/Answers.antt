@@ -1,32 +1,11 @@
 -- A step that goes on keeps what the search keeps, and takes one report; one that ends the search has found the block's end, whose row is written.
-use Rattle.std.proofs.Common.{◌+◌, sym, subst, arith}
+use Rattle.std.proofs.Common.{◌+◌, sym, subst}
 use Rattle.planner.specs.Inside.{reports_in}
 use Rattle.planner.proofs.Building.{Building, builds_from_nothing, builds_on, builds_all}
 use Rattle.planner.proofs.blocks.blocks.Goals as goal
 
 pub loop-first-init : goal.loop-first-init
 loop-first-init c = builds_from_nothing c.args.fair c.args.rows.now c.requires
-
-pub search-smaller : goal.search-smaller
-search-smaller c =
-    let i = c.search.invariant in
-    omega (arith, c.in-Continue.ensures.1, i.kept_in.upto, i.kept_in.stretch.on_list)
-
-pub search-preserved : goal.search-preserved
-search-preserved c = c.in-Continue.ensures.0
-
-pub overflow_cast-row-in-loop-first : goal.overflow_cast-row-in-loop-first
-overflow_cast-row-in-loop-first c =
-    let e = c.in-Break.ensures in
-    omega (arith, e.on, e.stretch.on_list, c.args.fair.fair.few)
-
-pub overflow_add-first : goal.overflow_add-first
-overflow_add-first c =
-    let e = c.in-Break.ensures in
-    omega (arith, e.on, e.stretch.on_list, c.args.fair.fair.few)
-
-pub loop-first-smaller : goal.loop-first-smaller
-loop-first-smaller c = omega (arith, c.in-Break.ensures.from, c.loop-first-test.true)
 
 pub loop-first-preserved : goal.loop-first-preserved
 loop-first-preserved c =
