@@ -4,7 +4,7 @@
 #![tactic(auto)]
 
 ghost use Rattle.std.specs.Prelude.{◌<◌, ◌≤◌, length, take, IfOk};
-ghost use Rattle.std.specs.Io.KnownBytes.{Consumes, IsAtEnd, ReadConsumes};
+ghost use Rattle.std.specs.Io.KnownBytes.{Consumes, IsAtEnd};
 
 use rolltext::Program;
 use std::env::FillError;
@@ -19,16 +19,11 @@ const INPUT: usize = Program::INPUT + 1;
 // Room for what std says of an error: the system's text, of at most 256 bytes, and the error's number.
 const MESSAGE: usize = 300;
 
-// One read into buf. A read that a signal interrupts counts as failed; a program that handles no
-// signal does not meet it.
-fn read_once<R: Read>(input: &mut R, buf: &mut [u8]) -> io::Result<usize>
-    ensures bound { IfOk result (λ n. n ≤ length buf.new) }
-    ensures bytes { ReadConsumes (R.remaining input.old) (R.remaining input.new) result buf.new }
-{
-    input.read(buf)
-}
-
-// Reads until buf is full or the input ends. A failed read must not pass for a short roll.
+// Reads until buf is full or the input ends. A failed read must not pass for a short roll; a read that a signal interrupts
+// counts as failed, which a program that handles no signal does not meet. The count is kept here, since no method of std
+// fills a lent buffer and says how far it came where the input ends: read_exact fails there, read_to_end wants a Vec, and
+// io::copy bounds no count where the input's bytes are not known.
+#[tactic(auto, using(crate::proofs::Filling::reads_more))]
 fn read_all<R: Read>(input: &mut R, buf: &mut [u8]) -> io::Result<usize>
     ensures bound { IfOk result (λ n. n ≤ length buf.new) }
     ensures bytes { IfOk result (λ n. Consumes (R.remaining input.old) (R.remaining input.new) (take n buf.new)) }
@@ -36,7 +31,7 @@ fn read_all<R: Read>(input: &mut R, buf: &mut [u8]) -> io::Result<usize>
 {
     let mut n: usize = 0;
     while n < buf.len() {
-        let more = read_once(input, &mut buf[n..])?;
+        let more = input.read(&mut buf[n..])?;
         if more == 0 {
             return Ok(n);
         }
@@ -47,16 +42,14 @@ fn read_all<R: Read>(input: &mut R, buf: &mut [u8]) -> io::Result<usize>
 
 // The system's text of an error, without the number of the error that std writes behind it.
 fn reason(text: &str) -> &str {
-    match text.split_once(" (os error ") {
-        Some((reason, _)) => reason,
-        None => text,
-    }
+    text.split_once(" (os error ")
+        .map_or(text, |(reason, _)| reason)
 }
 
-// A line on standard error: what failed, a colon and the system's text.
+// A line on standard error: the program, what failed and the system's text, with colons between them.
 fn fail(rt: &impl Eprint, what: &str, error: io::Error) -> io::Result<()> {
     let text = InlineText::<MESSAGE>::of(error);
-    eprintln!(rt; "{what}: {}", reason(text.as_str()))
+    eprintln!(rt; "rollplan: {what}: {}", reason(text.as_str()))
 }
 
 // Arguments, reading, the plan, writing. An argument is refused, since whoever gives a file's name
@@ -71,11 +64,9 @@ fn main(rt: HostRuntime) -> io::Result<()> {
     let mut out = [0u8; Program::TEXT];
     let n = match read_all(&mut rt.stdin(), &mut input) {
         Ok(n) => n,
-        Err(error) => return fail(&rt, "rollplan: reading standard input", error),
+        Err(error) => return fail(&rt, "reading standard input", error),
     };
     let length = rolltext::roll_text(&input[..n], &mut rows, &mut out);
-    match rt.write_all(&out[..length]) {
-        Ok(()) => Ok(()),
-        Err(error) => fail(&rt, "rollplan: writing standard output", error),
-    }
+    rt.write_all(&out[..length])
+        .or_else(|error| fail(&rt, "writing standard output", error))
 }

@@ -35,60 +35,62 @@ fn plan(rt: &impl Print, input: &[u8]) -> io::Result<()> {
     show(rt, input, &mut rows)
 }
 
-fn named(rt: &impl Print, name: &[u8], input: &[u8]) -> io::Result<()> {
-    rt.write_all(name)?;
+fn named(rt: &impl Print, name: &str, input: &[u8]) -> io::Result<()> {
+    println!(rt; "{name}")?;
     plan(rt, input)
 }
 
-// The sample with one byte changed.
-fn changed(rt: &impl Print, name: &[u8], at: usize, to: u8) -> io::Result<()>
-    requires { at < 40 }
+// A roll with one byte changed.
+fn changed<const N: usize>(
+    rt: &impl Print,
+    name: &str,
+    mut roll: [u8; N],
+    at: usize,
+    to: u8,
+) -> io::Result<()>
+    requires { at < N }
 {
-    let mut roll = SAMPLE;
-    roll[at] = to;
-    named(rt, name, &roll)
-}
-
-// The sample with a floor, with one byte changed.
-fn changed_floor(rt: &impl Print, name: &[u8], at: usize, to: u8) -> io::Result<()>
-    requires { at < 44 }
-{
-    let mut roll = FLOORED;
     roll[at] = to;
     named(rt, name, &roll)
 }
 
 // Rolls with a floor: the rows are as without one, and every rule in which 20 stands for 16.
 fn floors(rt: &impl Print) -> io::Result<()> {
-    named(rt, b"0, the sample with the floor 3/2:\n", &FLOORED)?;
-    changed_floor(rt, b"0, the floor is P/Q:\n", 24, 2)?;
-    changed_floor(rt, b"16, R is 0:\n", 24, 0)?;
-    changed_floor(rt, b"16, T is 0:\n", 26, 0)?;
-    changed_floor(rt, b"17, the floor is 1/2:\n", 24, 1)?;
-    changed_floor(rt, b"4 before 17, the floor is 3/2 and Q is 0:\n", 40, 0)?;
-    changed_floor(rt, b"11, the mark is AE:\n", 43, 0x45)?;
-    changed_floor(rt, b"12, marked AQ:\n", 43, 0x51)?;
-    changed_floor(rt, b"12, the back distance of AQ:\n", 28, 40)?;
+    named(rt, "0, the sample with the floor 3/2:", &FLOORED)?;
+    changed(rt, "0, the floor is P/Q:", FLOORED, 24, 2)?;
+    changed(rt, "16, R is 0:", FLOORED, 24, 0)?;
+    changed(rt, "16, T is 0:", FLOORED, 26, 0)?;
+    changed(rt, "17, the floor is 1/2:", FLOORED, 24, 1)?;
+    changed(
+        rt,
+        "4 before 17, the floor is 3/2 and Q is 0:",
+        FLOORED,
+        40,
+        0,
+    )?;
+    changed(rt, "11, the mark is AE:", FLOORED, 43, 0x45)?;
+    changed(rt, "12, marked AQ:", FLOORED, 43, 0x51)?;
+    changed(rt, "12, the back distance of AQ:", FLOORED, 28, 40)?;
     let mut roll = FLOORED;
     roll[28] = 56;
     roll[36] = 3;
-    named(rt, b"13, a record more than there are bytes:\n", &roll)?;
-    named(rt, b"10, the last 19 bytes:\n", &FLOORED[25..])?;
-    named(rt, b"13, the last 20 bytes:\n", &FLOORED[24..])
+    named(rt, "13, a record more than there are bytes:", &roll)?;
+    named(rt, "10, the last 19 bytes:", &FLOORED[25..])?;
+    named(rt, "13, the last 20 bytes:", &FLOORED[24..])
 }
 
 // Rules of the file.
 fn file_rules(rt: &impl Print) -> io::Result<()> {
-    changed(rt, b"11, the mark's first byte:\n", 38, 0x42)?;
-    changed(rt, b"11, the mark's last byte:\n", 39, 0x41)?;
-    changed(rt, b"12, back distance one too far:\n", 24, 41)?;
-    changed(rt, b"12, back distance 0:\n", 24, 0)?;
-    changed(rt, b"12, one record too few:\n", 32, 1)?;
-    changed(rt, b"12, back distance huge:\n", 27, 255)?;
+    changed(rt, "11, the mark's first byte:", SAMPLE, 38, 0x42)?;
+    changed(rt, "11, the mark's last byte:", SAMPLE, 39, 0x41)?;
+    changed(rt, "12, back distance one too far:", SAMPLE, 24, 41)?;
+    changed(rt, "12, back distance 0:", SAMPLE, 24, 0)?;
+    changed(rt, "12, one record too few:", SAMPLE, 32, 1)?;
+    changed(rt, "12, back distance huge:", SAMPLE, 27, 255)?;
     let mut roll = SAMPLE;
     roll[24] = 52;
     roll[32] = 3;
-    named(rt, b"13, a record more than there are bytes:\n", &roll)
+    named(rt, "13, a record more than there are bytes:", &roll)
 }
 
 // Rules of the whole list.
@@ -100,35 +102,43 @@ fn list_rules(rt: &impl Print) -> io::Result<()> {
     many[12309] = 4;
     many[12314] = 0x41;
     many[12315] = 0x51;
-    named(rt, b"2, 1025 records:\n", &many)?;
-    rt.write_all(b"3, row room for one report of two:\n")?;
+    named(rt, "2, 1025 records:", &many)?;
+    println!(rt; "3, row room for one report of two:")?;
     let mut rows = [0u32; Row::WIDTH];
     show(rt, &SAMPLE, &mut rows)?;
-    changed(rt, b"4, P is 0:\n", 34, 0)?;
-    changed(rt, b"4, Q is 0:\n", 36, 0)
+    changed(rt, "4, P is 0:", SAMPLE, 34, 0)?;
+    changed(rt, "4, Q is 0:", SAMPLE, 36, 0)
 }
 
 // Rules of its reports.
 fn report_rules(rt: &impl Print) -> io::Result<()> {
-    changed(rt, b"5, no operations:\n", 8, 0)?;
-    changed(rt, b"5, 65538 operations of report 1:\n", 22, 1)?;
-    changed(rt, b"6, arrival before the reference:\n", 0, 99)?;
+    changed(rt, "5, no operations:", SAMPLE, 8, 0)?;
+    changed(rt, "5, 65538 operations of report 1:", SAMPLE, 22, 1)?;
+    changed(rt, "6, arrival before the reference:", SAMPLE, 0, 99)?;
     changed(
         rt,
-        b"6, arrival of report 1 before the reference:\n",
+        "6, arrival of report 1 before the reference:",
+        SAMPLE,
         12,
         99,
     )?;
-    changed(rt, b"7, deadline before the reference:\n", 4, 99)?;
+    changed(rt, "7, deadline before the reference:", SAMPLE, 4, 99)?;
     changed(
         rt,
-        b"7, deadline of report 1 before the reference:\n",
+        "7, deadline of report 1 before the reference:",
+        SAMPLE,
         16,
         99,
     )?;
-    changed(rt, b"8, report 1 arrives before report 0:\n", 0, 102)?;
-    changed(rt, b"9, five operations in four ticks:\n", 8, 5)?;
-    changed(rt, b"9, thirteen operations in twelve ticks:\n", 20, 11)
+    changed(rt, "8, report 1 arrives before report 0:", SAMPLE, 0, 102)?;
+    changed(rt, "9, five operations in four ticks:", SAMPLE, 8, 5)?;
+    changed(
+        rt,
+        "9, thirteen operations in twelve ticks:",
+        SAMPLE,
+        20,
+        11,
+    )
 }
 
 // Every shorter front of the sample: 10, then 11.
@@ -144,33 +154,26 @@ fn fronts(rt: &impl Print) -> io::Result<()> {
 fn put_last(roll: &mut [u8])
     requires { 40 ≤ length roll.old }
 {
-    let at = roll.len() - 40;
+    let at = roll.len() - SAMPLE.len();
     roll[at..].copy_from_slice(&SAMPLE);
 }
 
-// The longest input, with a preface that is never looked at.
+// The longest input and one with a byte more: the sample, with a preface that is never looked at.
 fn longest(rt: &impl Print) -> io::Result<()> {
-    let mut roll = [0xffu8; Program::INPUT];
-    put_last(&mut roll);
-    named(rt, b"0, 65536 bytes:\n", &roll)
-}
-
-// The same with one byte more.
-fn too_long(rt: &impl Print) -> io::Result<()> {
     let mut roll = [0xffu8; Program::INPUT + 1];
     put_last(&mut roll);
-    named(rt, b"14, 65537 bytes:\n", &roll)
+    named(rt, "0, 65536 bytes:", &roll[1..])?;
+    named(rt, "14, 65537 bytes:", &roll)
 }
 
 fn main(rt: HostRuntime) -> io::Result<()> {
-    named(&rt, b"0, the sample:\n", &SAMPLE)?;
-    changed(&rt, b"0, one more operation of report 0:\n", 8, 3)?;
+    named(&rt, "0, the sample:", &SAMPLE)?;
+    changed(&rt, "0, one more operation of report 0:", SAMPLE, 8, 3)?;
     file_rules(&rt)?;
     list_rules(&rt)?;
     report_rules(&rt)?;
     longest(&rt)?;
-    too_long(&rt)?;
-    rt.write_all(b"every shorter front of the sample:\n")?;
+    println!(rt; "every shorter front of the sample:")?;
     fronts(&rt)?;
     floors(&rt)
 }

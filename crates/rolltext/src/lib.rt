@@ -7,9 +7,10 @@ ghost use Rattle.answers.specs.Numbers.{number_of, place_of, blocks_of};
 ghost use Rattle.rolltext.specs.Program.{ProgramOutcome, Says};
 ghost use Rattle.text.specs.Text.{TextIs};
 
-use answers::{Answer, Refusal, Row};
+use answers::{Answer, Fault, Reply, Row};
 use rules::Roll;
 use text::Text;
+use trials::refuse_if;
 
 // The program's limits: with buffers of these sizes every answer has its text whole
 // (proofs/Buffers.antt).
@@ -26,16 +27,10 @@ impl Program {
 }
 
 // The answer for an input. Rule 14 is before all others.
-#[tactic(auto, using(crate::proofs::Saying::too_long))]
 fn answer_input(input: &[u8], rows: &mut [u32]) -> Answer
     ensures { ProgramOutcome input.now rows.old (number_of result) (place_of result) (blocks_of result) rows.new }
 {
-    if Program::INPUT < input.len() {
-        return Answer::Refused(Refusal {
-            number: Refusal::TOO_LONG,
-            place: 0,
-        });
-    }
+    refuse_if(Program::INPUT < input.len(), Fault::TooLong)?;
     roll::plan_roll(input, rows)
 }
 
@@ -44,8 +39,8 @@ fn say(answer: Answer, rows: &[u32], out: &mut [u8]) -> usize
     ensures text_is { TextIs (number_of answer) (place_of answer) (blocks_of answer) rows.now out.old result out.new }
     ensures upper_bound { result ≤ length out.new }
 {
-    let reply = answers::in_numbers(answer);
-    let number = reply.number as u64;
+    let reply = Reply::from(answer);
+    let number = u64::from(reply.number);
     let place = reply.place as u64;
     text::plan_text(number, place, reply.blocks, rows, out)
 }

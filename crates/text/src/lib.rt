@@ -41,6 +41,6 @@ pub fn plan_text(number: u64, place: u64, blocks: usize, rows: &[u32], out: &mut
     if out.len() < Text::FIRST + Text::LINE * blocks {
         return 0;
     }
-    let behind = lines::put_first(number, place, blocks as u64, out, 0);
-    lines::put_rows(rows, blocks, out, behind)
+    let behind = lines::put_first(number, place, blocks as u64, out);
+    behind + lines::put_rows(rows, blocks, &mut out[behind..])
 }

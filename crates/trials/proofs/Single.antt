@@ -90,8 +90,8 @@ one_after {rules} (Ok _) (Err a) (Ok _) single p q = absurd (not_refused rules q
 one_after (Ok _) (Err a) (Err b) single p q = ap Err (one_refuses single p.is q.is)
 
 -- The promises of `refuse_if` and `refuse_at` allow one verdict.
-pub one_verdict_if : (b : Bool) (f : Fault) (r s : Verdict) → RefuseIf b f r → RefuseIf b f s → r ≡ s
-one_verdict_if b f r s p q = p.is ∙ sym q.is
+pub one_verdict : (b : Bool) (f : Fault) (r s : Verdict) → RefuseIf b f r → RefuseIf b f s → r ≡ s
+one_verdict b f r s p q = p.is ∙ sym q.is
 
 pub one_verdict_at : (o : Option ℕ) (f : Fault) (r s : Verdict) → RefuseAt o f r → RefuseAt o f s → r ≡ s
 one_verdict_at o f r s p q = p.is ∙ sym q.is

@@ -4,8 +4,8 @@
 // roll::plan_roll, roll::read and writer::write, in 01's numbers.
 #![tactic(auto)]
 
-ghost use Rattle.std.specs.Prelude.{◌≡◌, ◌+◌, take};
-ghost use Rattle.rules.specs.declared.Floor.TheVariants.{Absent, Slowest};
+ghost use Rattle.std.specs.Prelude.{◌≡◌, ◌+◌, take, None, Some};
+ghost use Rattle.rules.specs.Offsets.{input};
 ghost use Rattle.planner.specs.Outcome.{PlanOutcome};
 ghost use Rattle.roll.specs.Format.{RollOutcome};
 ghost use Rattle.roll.specs.Answers.{NumbersIs};
@@ -13,23 +13,16 @@ ghost use Rattle.writer.specs.Bytes.{ReadsBack};
 ghost use Rattle.writer.specs.Writing.{WriteOutcome};
 
 use answers::Reply;
+use fraction::Pace;
 use roll::Numbers;
-use rules::{Floor, Roll};
+use rules::{ReportList, Roll};
 use writer::WriteReply;
 
 // Plans a list, and answers in numbers.
-fn planned(
-    arrivals: &[u32],
-    deadlines: &[u32],
-    operations: &[u32],
-    terms: Roll,
-    floor: Floor,
-    rows: &mut [u32],
-) -> Reply
-    ensures { PlanOutcome (record { arrivals = arrivals.now; deadlines = deadlines.now; operations = operations.now; terms = terms; floor = floor; buffer = rows.old }) result.number result.place result.blocks rows.new }
+fn planned(list: ReportList<'_>, floor: Option<Pace>, rows: &mut [u32]) -> Reply
+    ensures { PlanOutcome (input list.entry floor rows.old) result.number result.place result.blocks rows.new }
 {
-    let answer = planner::plan(arrivals, deadlines, operations, terms, floor, rows);
-    answers::in_numbers(answer)
+    planner::plan(list, floor, rows).into()
 }
 
 // Plans a list: three lists of readings, the reference, P and Q, and a buffer for rows. There is no
@@ -43,10 +36,15 @@ pub fn vakrhildo_plan(
     q: u32,
     rows: &mut [u32],
 ) -> Reply
-    ensures { PlanOutcome (record { arrivals = arrivals.now; deadlines = deadlines.now; operations = operations.now; terms = record { reference = reference; p = p; q = q }; floor = Absent; buffer = rows.old }) result.number result.place result.blocks rows.new }
+    ensures { PlanOutcome (record { arrivals = arrivals.now; deadlines = deadlines.now; operations = operations.now; terms = record { reference = reference; p = p; q = q }; floor = None; buffer = rows.old }) result.number result.place result.blocks rows.new }
 {
-    let terms = Roll { reference, p, q };
-    planned(arrivals, deadlines, operations, terms, Floor::Absent, rows)
+    let list = ReportList {
+        arrivals,
+        deadlines,
+        operations,
+        terms: Roll { reference, p, q },
+    };
+    planned(list, None, rows)
 }
 
 // The same with a floor, the slowest pace R/T.
@@ -61,18 +59,26 @@ pub fn vakrhildo_plan_floor(
     t: u32,
     rows: &mut [u32],
 ) -> Reply
-    ensures { PlanOutcome (record { arrivals = arrivals.now; deadlines = deadlines.now; operations = operations.now; terms = record { reference = reference; p = p; q = q }; floor = Slowest r t; buffer = rows.old }) result.number result.place result.blocks rows.new }
+    ensures { PlanOutcome (record { arrivals = arrivals.now; deadlines = deadlines.now; operations = operations.now; terms = record { reference = reference; p = p; q = q }; floor = Some (record { ticks = r; operations = t }); buffer = rows.old }) result.number result.place result.blocks rows.new }
 {
-    let terms = Roll { reference, p, q };
-    let floor = Floor::Slowest(r, t);
-    planned(arrivals, deadlines, operations, terms, floor, rows)
+    let list = ReportList {
+        arrivals,
+        deadlines,
+        operations,
+        terms: Roll { reference, p, q },
+    };
+    let floor = Pace {
+        ticks: r,
+        operations: t,
+    };
+    planned(list, Some(floor), rows)
 }
 
 // Plans the list in a roll, by all the rules, file rules first.
 pub fn vakrhildo_plan_roll(file: &[u8], rows: &mut [u32]) -> Reply
     ensures { RollOutcome file.now rows.old result.number result.place result.blocks rows.new }
 {
-    answers::in_numbers(roll::plan_roll(file, rows))
+    roll::plan_roll(file, rows).into()
 }
 
 // Reads a roll: the refusal's number, the trailer's numbers, and where the part of the caller's bytes
@@ -99,12 +105,11 @@ pub fn vakrhildo_write(
     ensures write_outcome { WriteOutcome (record { arrivals = arrivals.now; deadlines = deadlines.now; operations = operations.now; terms = record { reference = reference; p = p; q = q } }) out.old at result.number result.place result.bytes out.new }
     ensures reads_back { result.number ≡ 0 → ReadsBack (take (at + result.bytes) out.new) (record { arrivals = arrivals.now; deadlines = deadlines.now; operations = operations.now; terms = record { reference = reference; p = p; q = q } }) }
 {
-    writer::write(
+    let list = ReportList {
         arrivals,
         deadlines,
         operations,
-        Roll { reference, p, q },
-        out,
-        at,
-    )
+        terms: Roll { reference, p, q },
+    };
+    writer::write(list, out, at).into()
 }

@@ -2,8 +2,7 @@
 // promises. include/vakrhildo.h declares them.
 #![tactic(auto)]
 
-ghost use Rattle.std.specs.Prelude.{◌≡◌, ◌+◌, take};
-ghost use Rattle.rules.specs.declared.Floor.TheVariants.{Absent, Slowest};
+ghost use Rattle.std.specs.Prelude.{◌≡◌, ◌+◌, take, None, Some};
 ghost use Rattle.planner.specs.Outcome.{PlanOutcome};
 ghost use Rattle.roll.specs.Format.{RollOutcome};
 ghost use Rattle.roll.specs.Answers.{NumbersIs};
@@ -26,7 +25,7 @@ pub extern "C" fn vakrhildo_plan(
     q: u32,
     rows: &mut [u32],
 ) -> Reply
-    ensures { PlanOutcome (record { arrivals = arrivals.now; deadlines = deadlines.now; operations = operations.now; terms = record { reference = reference; p = p; q = q }; floor = Absent; buffer = rows.old }) result.number result.place result.blocks rows.new }
+    ensures { PlanOutcome (record { arrivals = arrivals.now; deadlines = deadlines.now; operations = operations.now; terms = record { reference = reference; p = p; q = q }; floor = None; buffer = rows.old }) result.number result.place result.blocks rows.new }
 {
     vakrhildo::vakrhildo_plan(arrivals, deadlines, operations, reference, p, q, rows)
 }
@@ -44,7 +43,7 @@ pub extern "C" fn vakrhildo_plan_floor(
     t: u32,
     rows: &mut [u32],
 ) -> Reply
-    ensures { PlanOutcome (record { arrivals = arrivals.now; deadlines = deadlines.now; operations = operations.now; terms = record { reference = reference; p = p; q = q }; floor = Slowest r t; buffer = rows.old }) result.number result.place result.blocks rows.new }
+    ensures { PlanOutcome (record { arrivals = arrivals.now; deadlines = deadlines.now; operations = operations.now; terms = record { reference = reference; p = p; q = q }; floor = Some (record { ticks = r; operations = t }); buffer = rows.old }) result.number result.place result.blocks rows.new }
 {
     vakrhildo::vakrhildo_plan_floor(arrivals, deadlines, operations, reference, p, q, r, t, rows)
 }

@@ -12,8 +12,8 @@ use denote.Ref.{Bor}
 use Rattle.trials.specs.Rules.{Accepted}
 use Rattle.rules.specs.Offsets.{Input, reports_of, fastest_of}
 use Rattle.rules.specs.Rules.{plan_rules}
-use Rattle.rules.specs.declared.Floor.{Floor}
-use Rattle.rules.specs.declared.Floor.TheVariants.{Absent}
+use Rattle.std.specs.Prelude.{Option, None}
+use Rattle.fraction.specs.declared.Pace.{Pace}
 use Rattle.planner.specs.Outcome.{PlanOutcome}
 use Rattle.planner.proofs.Outcomes.{goes_on}
 use Rattle.roll.specs.Format.{mark, ends_in, floor_of, count_of, reference_of, p_of, q_of, terms_of, back_of, file_rules, records_at, records_of, column_in, input_in, input_of, RollOutcome}
@@ -68,12 +68,12 @@ module _ (x : Listing) (before : List ℕ) (at : ℕ) where
     abbrev roll : List ℕ
     roll = take (at + bytes) after
 
-    no_floor : floor_of roll ≡ Absent
+    no_floor : floor_of roll ≡ None
     no_floor = (without_floor roll (plain_mark roll b.marked)).1
 
     -- In the buffer up to the roll's end the reader finds no fault, no floor, and the reference, the count, P, Q and the three lists that went in.
     pub what_is_written_reads_back :
-        Accepted (file_rules roll) × (floor_of roll ≡ Absent) × (reference_of roll ≡ x.terms.reference) × (count_of roll ≡ length x.arrivals) × (p_of roll ≡ x.terms.p) × (q_of roll ≡ x.terms.q)
+        Accepted (file_rules roll) × (floor_of roll ≡ None) × (reference_of roll ≡ x.terms.reference) × (count_of roll ≡ length x.arrivals) × (p_of roll ≡ x.terms.p) × (q_of roll ≡ x.terms.q)
         × (column_in (records_of roll) (count_of roll) 0 ≡ x.arrivals) × (column_in (records_of roll) (count_of roll) 4 ≡ x.deadlines) × (column_in (records_of roll) (count_of roll) 8 ≡ x.operations)
     what_is_written_reads_back =
         let e = b.list_is in
@@ -82,7 +82,7 @@ module _ (x : Listing) (before : List ℕ) (at : ℕ) where
     -- `read` shows them: its numbers are these, and the part that it hands back begins at the place.
     pub the_reader_shows_it :
         (n : Numbers) → NumbersIs roll n →
-        n ≡ record { refusal = 0; trailer = record { count = length x.arrivals; terms = x.terms }; floor = floor_numbers Absent; at = at; size = 12 * length x.arrivals }
+        n ≡ record { refusal = 0; trailer = record { count = length x.arrivals; terms = x.terms }; floor = floor_numbers None; at = at; size = 12 * length x.arrivals }
     the_reader_shows_it = Shown.numbers_shown x before at place bytes after o b
 
     pub and_hands_back_its_records : (s part : Bor (List ℕ)) → s.now ≡ roll → PartIs s part → PartFrom s at (12 * length x.arrivals) part
@@ -93,7 +93,7 @@ module _ (x : Listing) (before : List ℕ) (at : ℕ) where
         (rows : List ℕ) (number place' blocks : ℕ) (rows' : List ℕ) →
         RollOutcome roll rows number place' blocks rows' ↔ PlanOutcome (handed x rows) number place' blocks rows'
     planning_the_roll_is_planning_the_list rows number place' blocks rows' =
-        let list : input_of roll rows ≡ handed x rows = ap (λ (f : Floor). input_in (records_of roll) (count_of roll) (terms_of roll) f rows) no_floor ∙ ap (λ (y : Listing). handed y rows) b.list_is in
+        let list : input_of roll rows ≡ handed x rows = ap (λ (f : Option Pace). input_in (records_of roll) (count_of roll) (terms_of roll) f rows) no_floor ∙ ap (λ (y : Listing). handed y rows) b.list_is in
         let y = input_of roll rows in (
           λ r. subst (λ (z : Input). PlanOutcome z number place' blocks rows') list (Roll.the_answer_for_the_list roll rows number place' blocks rows' r b.accepted),
           λ p. goes_on (reports_of y) (fastest_of y) rows (file_rules roll) (plan_rules y) number place' blocks rows' (record { accepted = b.accepted }) (subst (λ (z : Input). PlanOutcome z number place' blocks rows') (sym list) p),

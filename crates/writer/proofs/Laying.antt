@@ -1,23 +1,30 @@
 -- Bytes, numbers, a record and a trailer put one behind the other. Each number and each place comes with an equation, so that a wrong one is refused by itself and named.
 -- Assumes nothing.
-use Prim.Native.Nat.{ℕ, ◌+◌, ◌*◌, ◌≤◌}
+use Prim.Native.Nat.{ℕ, ◌+◌, ◌*◌, ◌/◌, ◌%◌, ◌≤◌}
 use mathlib.Core.Path.{◌≡◌, refl, ◌∙◌, ap, ap₂, subst}
-use mathlib.Core.List.{List, ◌++◌}
+use mathlib.Core.List.{List}
 use native.Mathlib.Omega.{arith}
 use lib.ListN.{length, get_or}
+use Rattle.std.specs.Int.{w16, w32, to_le_bytes}
 use Rattle.lists.specs.Puts.{Puts}
-use Rattle.lists.proofs.Putting.{puts_as, puts_to, puts_next, Turns, one_turn}
+use Rattle.lists.proofs.Putting.{puts_as, puts_to, puts_then, Turns, one_turn}
 use Rattle.roll.specs.Format.{mark}
 use Rattle.roll.specs.declared.Trailer.{Trailer}
 use Rattle.writer.specs.Bytes.{le16, le32, record_bytes, records_up_to, roll_long, trailer_bytes}
 use Rattle.writer.specs.Inside.{RecordFits, RecordsFit}
 use Rattle.writer.proofs.Records.{fits_more}
 
--- ---- two halves, one behind the other: bytes of two, and twos of four
-pub halves_put :
-    (half : ℕ → List ℕ) {out mid after : List ℕ} {at r p s : ℕ} (low high low' high' end : ℕ) → low ≡ low' → high ≡ high' → p ≡ r → s ≡ end →
-    Puts out at (half low) r mid → Puts mid p (half high) s after → Puts out at (half low' ++ half high') end after
-halves_put half low high low' high' end e f there to a b = puts_to to (puts_as (ap₂ (λ (x y : ℕ). half x ++ half y) e f) (puts_next there a b))
+-- ---- a number's bytes, as the machine's number gives them
+pub two_low : {b : List ℕ} {n m : ℕ} → b ≡ to_le_bytes w16 n → n ≡ m → b ≡ le16 m
+two_low {b} {n} {m} e f = let low : to_le_bytes w16 n ≡ le16 n = refl in e ∙ low ∙ ap le16 f
+
+pub four_low : {b : List ℕ} {n m : ℕ} → b ≡ to_le_bytes w32 n → n ≡ m → b ≡ le32 m
+four_low {b} {n} {m} e f =
+    let second : n / 256 % 256 ≡ n % 65536 / 256 % 256 = omega arith in
+    let low : n % 256 ≡ n % 65536 % 256 = omega arith in
+    let high : n / 16777216 % 256 ≡ n / 65536 / 256 % 256 = omega arith in
+    let all : to_le_bytes w32 n ≡ le32 n = cc (low, second, high) in
+    e ∙ all ∙ ap le32 f
 
 -- ---- one record more
 -- i records are put, and their numbers fit
@@ -44,11 +51,12 @@ all_records {xs} {ys} {ws} {before} {after} {i} h inv =
     let e : i ≡ length xs = omega (arith, h, inv.0) in
     subst (λ (n : ℕ). Puts before 0 (records_up_to xs ys ws n) (12 * n) after × RecordsFit xs ys ws n) e (inv.1.put, inv.2)
 
--- ---- a trailer's numbers
-pub same_trailer :
-    (t : Trailer) (back reference count p q : ℕ) → back ≡ roll_long t.count → reference ≡ t.terms.reference → count ≡ t.count → p ≡ t.terms.p → q ≡ t.terms.q →
-    le32 back ++ le32 reference ++ le16 count ++ le16 p ++ le16 q ++ mark ≡ trailer_bytes t
-same_trailer t back reference count p q e f g h k =
-    ap (λ (x : ℕ). le32 x ++ le32 reference ++ le16 count ++ le16 p ++ le16 q ++ mark) e
-    ∙ ap₂ (λ (x y : ℕ). le32 (roll_long t.count) ++ le32 x ++ le16 y ++ le16 p ++ le16 q ++ mark) f g
-    ∙ ap₂ (λ (x y : ℕ). le32 (roll_long t.count) ++ le32 t.terms.reference ++ le16 t.count ++ le16 x ++ le16 y ++ mark) h k
+-- ---- a trailer's numbers, one behind the other
+pub trailer_put :
+    (t : Trailer) {out a b c d e after : List ℕ} {back reference count p q : List ℕ} {r₁ r₂ r₃ r₄ r₅ s : ℕ} →
+    back ≡ le32 (roll_long t.count) → reference ≡ le32 t.terms.reference → count ≡ le16 t.count → p ≡ le16 t.terms.p → q ≡ le16 t.terms.q →
+    Puts out 0 back r₁ a → Puts a r₁ reference r₂ b → Puts b r₂ count r₃ c → Puts c r₃ p r₄ d → Puts d r₄ q r₅ e → Puts e r₅ mark s after →
+    Puts out 0 (trailer_bytes t) 16 after
+trailer_put t f g h k l m n o u v w =
+    let all = puts_then (puts_then (puts_then (puts_then (puts_then (puts_as f m) (puts_as g n)) (puts_as h o)) (puts_as k u)) (puts_as l v)) w in
+    puts_to all.behind all

@@ -5,6 +5,7 @@ pub mod ReadingBack
 pub mod WritingBack
 pub mod Outcomes
 pub mod OneResult
+pub mod Replies
 pub mod Showing
 pub mod Demands
 pub mod Sample

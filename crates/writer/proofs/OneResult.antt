@@ -5,14 +5,28 @@ use mathlib.Core.Path.{◌≡◌, refl, sym, ◌∙◌, ap, ap₂}
 use mathlib.Core.List.{List}
 use mathlib.Core.Logic.{⊎_elim}
 use native.Mathlib.Omega.{arith}
+use Rattle.answers.specs.Numbers.{number_of, place_of}
+use Rattle.answers.proofs.Replies.{always_proper, same_answer}
 use Rattle.lists.proofs.Putting.{one_put}
 use Rattle.trials.proofs.Passing.{Passed}
 use Rattle.trials.proofs.Single.{Soles, singly, not_refused, one_refusal}
 use Rattle.trials.proofs.Deciding.{Decides, Gives, deciding, passed_or_given}
 use Rattle.writer.specs.Bytes.{Listing}
-use Rattle.writer.specs.Writing.{rules_for, WriteOutcome}
+use Rattle.writer.specs.Writing.{rules_for, WriteOutcome, Wrote, bytes_of, InBytes}
 use Rattle.writer.specs.declared.WriteReply.{WriteReply}
-use Rattle.writer.proofs.Outcomes.{refused_write, written, all_put}
+use Rattle.writer.proofs.Outcomes.{refused, written, all_put}
+
+-- ---- a reply is told by its three numbers
+reply : ℕ → ℕ → ℕ → WriteReply
+reply n p b = record { number = n; place = p; bytes = b }
+
+same_reply : (r t : WriteReply) → r.number ≡ t.number → r.place ≡ t.place → r.bytes ≡ t.bytes → r ≡ t
+unfolding reply
+same_reply r t e e' e'' = ap₂ (λ (n p : ℕ). reply n p r.bytes) e e' ∙ ap (reply t.number t.place) e''
+
+-- The promise of `WriteReply::from` allows one reply.
+pub one_reply_of : (a : Wrote) (r t : WriteReply) → InBytes a r → InBytes a t → r ≡ t
+one_reply_of a r t i j = same_reply r t (i.number_is ∙ sym j.number_is) (i.place_is ∙ sym j.place_is) (i.bytes_is ∙ sym j.bytes_is)
 
 module _ (x : Listing) (before : List ℕ) (at : ℕ) where
   -- each rule is given with one place only
@@ -40,10 +54,15 @@ module _ (x : Listing) (before : List ℕ) (at : ℕ) where
       WriteOutcome x before at r.number r.place r.bytes after → WriteOutcome x before at t.number t.place t.bytes after' → (r ≡ t) × (after ≡ after')
   one_write_reply r t after after' v w =
       let e = one_write r.number r.place r.bytes t.number t.place t.bytes after after' v w in
-      (ap₂ (λ (n p : ℕ). reply n p r.bytes) e.0 e.1 ∙ ap (reply t.number t.place) e.2, e.3)
-    where
-      reply : ℕ → ℕ → ℕ → WriteReply
-      reply n p b = record { number = n; place = p; bytes = b }
+      (same_reply r t e.0 e.1 e.2, e.3)
+
+  -- or one answer of Rattle's,
+  pub one_wrote :
+      (a b : Wrote) (after after' : List ℕ) →
+      WriteOutcome x before at (number_of a) (place_of a) (bytes_of a) after → WriteOutcome x before at (number_of b) (place_of b) (bytes_of b) after' → (a ≡ b) × (after ≡ after')
+  one_wrote a b after after' v w =
+      let e = one_write (number_of a) (place_of a) (bytes_of a) (number_of b) (place_of b) (bytes_of b) after after' v w in
+      (same_answer a b (always_proper a) (always_proper b) e.0 e.1 e.2, e.3)
 
   decides_write : Decides (rules_for x before at)
   decides_write = search deciding depth 40
@@ -53,5 +72,5 @@ module _ (x : Listing) (before : List ℕ) (at : ℕ) where
   some_write =
       ⊎_elim
       (λ (p : Passed (rules_for x before at)). let w = all_put x before at in (0, 0, w.0, w.1, written x before at w.0 p w.2))
-      (λ (g : Gives (rules_for x before at)). (g.number, g.place, 0, before, refused_write x before at (record { refused = g.refused; numbered = g.numbered })))
+      (λ (g : Gives (rules_for x before at)). (g.number, g.place, 0, before, refused x before at g.number g.place g.numbered g.refused))
       (passed_or_given decides_write)

@@ -7,21 +7,24 @@ use mathlib.Core.Logic.{◌↔◌, inl, inr, ⊎_elim}
 use native.Mathlib.Omega.{arith}
 use lib.Dec.{ltb}
 use lib.ListN.{length, get_or, take, drop}
+use Rattle.std.specs.Prelude.{Ok, Err, IsErr, IsErrAnd}
+use Rattle.answers.specs.Numbers.{number, number_of, place_of}
 use Rattle.answers.specs.declared.Refusal.{Refusal}
+use Rattle.answers.proofs.Replies.{numbered}
 use Rattle.lists.specs.Puts.{Puts}
 use Rattle.lists.proofs.Putting.{put_long, put_before, put_behind}
 use Rattle.trials.specs.Rules.{Refused, Refuses}
-use Rattle.trials.specs.Tries.{Tells}
+use Rattle.trials.specs.Tries.{Tells, Verdict, After}
 use Rattle.trials.proofs.Passing.{Passed, Quiet, finding, untrue, not_given, more, none}
 use Rattle.trials.proofs.Numbers.{Never, never_none, never_other, never_this}
 use Rattle.trials.proofs.Single.{not_refused}
-use Rattle.trials.proofs.Trying.{tells_as, tells_below}
+use Rattle.trials.proofs.Trying.{tells_as, tells_below, passed, refuses_on}
 use Rattle.fraction.proofs.Scale.{cases}
 use Rattle.rules.specs.Rules.{lengths_rule, many_rule}
 use Rattle.rules.specs.Leaves.{Even}
 use Rattle.rules.proofs.Leaving.{even_lists, few_reports}
 use Rattle.writer.specs.Bytes.{Listing, roll_long, roll_bytes, ReadsBack}
-use Rattle.writer.specs.Writing.{wide_rule, room_rule, rules_for, WriteOutcome, Writable}
+use Rattle.writer.specs.Writing.{wide_rule, room_rule, rules_for, WriteOutcome, Wrote, bytes_of, Writable}
 use Rattle.writer.specs.Inside.{RecordsFit}
 use Rattle.writer.proofs.Records.{length-roll_bytes}
 use Rattle.writer.proofs.ReadingBack.{written_reads_back}
@@ -50,14 +53,24 @@ module _ (x : Listing) (before : List ℕ) (at : ℕ) where
         room = cases (length before) (at + roll_long (length x.arrivals)) (λ l. absurd (untrue room l)) (λ g. g);
       }
 
+  -- where the rules, tried by a `?`, are silent
+  pub left : {v : Verdict} → After (Ok tt) (rules_for x before at) v → v ≡ Ok tt → Writable x before at
+  left t e = leaves (passed t e)
+
   -- ---- a rule is given
-  refused : (number place : ℕ) → 0 < number → Refused (rules_for x before at) number place → WriteOutcome x before at number place 0 before
+  pub refused : (n place : ℕ) → 0 < n → Refused (rules_for x before at) n place → WriteOutcome x before at n place 0 before
   unfolding WriteOutcome
   refused zero place h r = absurd (omega (arith, h))
   refused (suc k) place h r = (r, refl, refl)
 
-  pub refused_write : {a : Refusal} → Refuses (rules_for x before at) a → WriteOutcome x before at a.number a.place 0 before
-  refused_write {a} r = refused a.number a.place r.numbered r.refused
+  pub refused_write : {a : Refusal} → Refuses (rules_for x before at) a → WriteOutcome x before at (number a.fault) a.place 0 before
+  refused_write {a} r = refused (number a.fault) a.place (numbered a.fault) r.refused
+
+  -- so is one that a `?` hands on, and nothing reads back
+  pub refused_on : {v : Verdict} {a : Refusal} (r : Wrote) → After (Ok tt) (rules_for x before at) v → v ≡ Err a → IsErr r × IsErrAnd r (λ e. e ≡ a) → WriteOutcome x before at (number_of r) (place_of r) (bytes_of r) before
+  refused_on {a = a} r t e h =
+      let p = refuses_on {rules = rules_for x before at} {r = r} t e h in
+      subst (λ (y : Wrote). WriteOutcome x before at (number_of y) (place_of y) (bytes_of y) before) (sym p.1) (refused_write p.0)
 
   -- ---- none is
   pub written : (bytes : ℕ) {after : List ℕ} → Passed (rules_for x before at) → Puts before at (roll_bytes x) (at + bytes) after → WriteOutcome x before at 0 0 bytes after

@@ -12,8 +12,8 @@ use Rattle.lists.proofs.Putting.{put_long}
 use Rattle.trials.specs.Rules.{Accepted}
 use Rattle.trials.proofs.Passing.{Passed}
 use Rattle.trials.proofs.Single.{not_refused}
-use Rattle.rules.specs.declared.Floor.{Floor}
-use Rattle.rules.specs.declared.Floor.TheVariants.{Absent}
+use Rattle.std.specs.Prelude.{Option, None}
+use Rattle.fraction.specs.declared.Pace.{Pace}
 use Rattle.roll.specs.Format.{mark, ends_in, count_of, back_of, file_rules, records_at, records_long}
 use Rattle.roll.specs.Answers.{floor_numbers, NumbersIs, PartFrom, PartIs}
 use Rattle.roll.specs.declared.Numbers.{Numbers}
@@ -51,13 +51,13 @@ module _ (x : Listing) (before : List ℕ) (at place bytes : ℕ) (after : List 
   -- the reader's numbers
   pub numbers_shown :
       (m : Numbers) → NumbersIs roll m →
-      m ≡ record { refusal = 0; trailer = record { count = length x.arrivals; terms = x.terms }; floor = floor_numbers Absent; at = at; size = 12 * length x.arrivals }
+      m ≡ record { refusal = 0; trailer = record { count = length x.arrivals; terms = x.terms }; floor = floor_numbers None; at = at; size = 12 * length x.arrivals }
   numbers_shown m is =
       one_numbers roll m _ is (record {
         accepted = λ _. record {
           refusal_is = refl;
           trailer_is = record { count_is = sym b.count_is; terms_is = sym (ap (λ (y : Listing). y.terms) b.list_is) };
-          floor_is = sym (ap (λ (f : Floor). floor_numbers f) (without_floor roll (plain_mark roll b.marked)).1);
+          floor_is = sym (ap (λ (f : Option Pace). floor_numbers f) (without_floor roll (plain_mark roll b.marked)).1);
           at_is = sym begins;
           size_is = sym long;
         };

@@ -1,10 +1,10 @@
 -- The bytes of a roll, as they are written (01, "The roll"): records, then the trailer, whose last two bytes are the mark; and what it is for a roll to read back. Mark, trailer and what is read are the reader's words, roll/specs/Format.antt.
 -- Assumes nothing.
-use Rattle.std.specs.Prelude.{ℕ, zero, suc, ◌+◌, ◌*◌, ◌/◌, ◌%◌, ◌<◌, ◌≡◌, true, List, [], ◌∷◌, ◌++◌, length, get_or}
+use Rattle.std.specs.Prelude.{ℕ, zero, suc, ◌+◌, ◌*◌, ◌/◌, ◌%◌, ◌<◌, ◌≡◌, true, List, [], ◌∷◌, ◌++◌, length, get_or, None}
 use Rattle.trials.specs.Rules.{Accepted}
 use Rattle.rules.specs.Offsets.{Input}
 use Rattle.rules.specs.declared.Roll.{Roll}
-use Rattle.rules.specs.declared.Floor.TheVariants.{Absent}
+use Rattle.rules.specs.declared.ReportList.{ReportList}
 use Rattle.roll.specs.Format.{mark, ends_in, count_of, file_rules, input_of}
 use Rattle.roll.specs.declared.Trailer.{Trailer}
 
@@ -14,6 +14,10 @@ pub record Listing : Type 0 where
   pub deadlines : List ℕ
   pub operations : List ℕ
   pub terms : Roll
+
+-- That of a list of reports that is lent.
+abbrev pub listing : ReportList → Listing
+listing list = record { arrivals = list.arrivals.now; deadlines = list.deadlines.now; operations = list.operations.now; terms = list.terms }
 
 -- All numbers are little-endian: two bytes, and four.
 abbrev pub le16 : ℕ → List ℕ
@@ -66,7 +70,7 @@ pub record ReadsBack (s : List ℕ) (x : Listing) : Type 0 where
 
 -- What the planner is handed with a list: no floor, and a row buffer.
 abbrev pub handed : Listing → List ℕ → Input
-handed x rows = record { arrivals = x.arrivals; deadlines = x.deadlines; operations = x.operations; terms = x.terms; floor = Absent; buffer = rows }
+handed x rows = record { arrivals = x.arrivals; deadlines = x.deadlines; operations = x.operations; terms = x.terms; floor = None; buffer = rows }
 
 -- A string of bytes.
 pub record ByteString (s : List ℕ) : Type 0 where

@@ -2,13 +2,6 @@
 // reads it. The bytes are specs/Bytes.antt, what comes back specs/Writing.antt.
 #![tactic(auto)]
 
-use answers::Refusal;
-use roll::Trailer;
-use rules::Roll;
-use trials::{Verdict, or_if};
-
-mod put;
-
 ghost use Rattle.std.specs.Prelude.{◌≡◌, ◌⊎◌, ◌+◌, ◌*◌, ◌^◌, ◌≤◌, ◌<◌, length, take};
 ghost use Rattle.lists.specs.Puts.{Puts};
 ghost use Rattle.trials.specs.Tries.{Tells, After};
@@ -16,9 +9,26 @@ ghost use Rattle.rules.specs.Leaves.{Even};
 ghost use Rattle.writer.specs.Bytes.{record_bytes, records_up_to, roll_long, trailer_bytes, roll_bytes, ReadsBack};
 ghost use Rattle.writer.specs.Writing.{write_rules, WriteOutcome};
 ghost use Rattle.writer.specs.Inside.{RecordFits, RecordsFit};
+ghost use Rattle.std.specs.Prelude.{◌≡◌, ◌⊎◌, ◌+◌, ◌*◌, ◌^◌, ◌≤◌, ◌<◌, length, take, Ok, IfOk};
+ghost use Rattle.answers.specs.Numbers.{number_of, place_of};
+ghost use Rattle.lists.specs.Puts.{Puts};
+ghost use Rattle.trials.specs.Tries.{Tells, After};
+ghost use Rattle.rules.specs.Leaves.{Even};
+ghost use Rattle.writer.specs.Bytes.{listing, record_bytes, records_up_to, roll_long, trailer_bytes, roll_bytes, ReadsBack};
+ghost use Rattle.writer.specs.Writing.{write_rules, WriteOutcome, bytes_of, InBytes};
+ghost use Rattle.writer.specs.Inside.{RecordFits, RecordsFit};
 
-// What the writer answers: the number of the refusal, 0 where there is none; its place, 0 always; and
-// how many bytes were written, 0 on a refusal.
+use answers::{Fault, Refusal};
+use lists::put;
+use roll::Trailer;
+use rules::{ReportList, Roll};
+use trials::{Verdict, refuse_if};
+
+// What the writer answers: how many bytes were written, or the refusal.
+pub type Wrote = Result<usize, Refusal>;
+
+// The same in 01's numbers, as C takes it: the number of the refusal, 0 where there is none; its place, 0
+// always; and how many bytes were written, 0 on a refusal.
 #[repr(C)]
 #[derive(Clone, Copy)]
 pub struct WriteReply {
@@ -32,14 +42,30 @@ impl WriteReply {
     pub const MOST: usize = Trailer::BYTES + Trailer::RECORD * Roll::REPORTS;
 }
 
+impl From<Wrote> for WriteReply {
+    ghost from_gives = { InBytes };
+
+    fn from(answer: Wrote) -> WriteReply {
+        match answer {
+            Ok(bytes) => WriteReply {
+                number: 0,
+                place: 0,
+                bytes,
+            },
+            Err(refusal) => WriteReply {
+                number: refusal.number(),
+                place: refusal.place,
+                bytes: 0,
+            },
+        }
+    }
+}
+
 // Whether P or Q has more than its two bytes.
 fn too_wide(terms: Roll) -> bool
     ensures { Tells ((65535 < terms.p) ⊎ (65535 < terms.q)) result }
 {
-    if Roll::PACE < terms.p {
-        return true;
-    }
-    Roll::PACE < terms.q
+    Roll::PACE < terms.p || Roll::PACE < terms.q
 }
 
 // Whether a buffer has too little room for the roll of so many reports from a place on. The place may be
@@ -57,9 +83,8 @@ fn no_room(reports: usize, at: usize, room: usize) -> bool
     (behind - Trailer::BYTES) / Trailer::RECORD < reports
 }
 
-// The writer's rules: 1, 2, 4 and 15. Two lines a rule: whether it is given, and or_if.
+// The writer's rules: 1, 2, 4 and 15. One line a rule: whether it is given, and what for.
 fn write_rules(
-    so_far: Verdict,
     arrivals: usize,
     deadlines: usize,
     operations: usize,
@@ -67,15 +92,15 @@ fn write_rules(
     at: usize,
     room: usize,
 ) -> Verdict
-    ensures { After so_far (write_rules arrivals deadlines operations terms at room) result }
+    ensures { After (Ok tt) (write_rules arrivals deadlines operations terms at room) result }
 {
-    let given = rules::uneven(arrivals, deadlines, operations);
-    let v = or_if(so_far, given, Refusal::LENGTHS, 0);
-    let v = or_if(v, Roll::REPORTS < arrivals, Refusal::TOO_MANY, 0);
-    let given = too_wide(terms);
-    let v = or_if(v, given, Refusal::BAD_PACE, 0);
-    let given = no_room(arrivals, at, room);
-    or_if(v, given, Refusal::NO_ROOM, 0)
+    refuse_if(
+        rules::uneven(arrivals, deadlines, operations),
+        Fault::Lengths,
+    )?;
+    refuse_if(Roll::REPORTS < arrivals, Fault::TooMany)?;
+    refuse_if(too_wide(terms), Fault::BadPace)?;
+    refuse_if(no_room(arrivals, at, room), Fault::NoRoom)
 }
 
 // Writes a record at the front of a part.
@@ -84,23 +109,26 @@ fn write_record(arrival: u32, deadline: u32, operations: u32, part: &mut [u8])
     ensures puts { Puts part.old 0 (record_bytes arrival deadline operations) 12 part.new }
     ensures record_fits { RecordFits arrival deadline operations }
 {
-    put::put_u32(arrival, part, 0);
-    put::put_u32(deadline, part, 4);
-    put::put_u32(operations, part, 8);
+    let at = put(&arrival.to_le_bytes(), part, 0);
+    let at = put(&deadline.to_le_bytes(), part, at);
+    put(&operations.to_le_bytes(), part, at);
 }
 
-// Writes the records of three lists at the front of a part. Each is lent the part from its place on.
-fn write_records(arrivals: &[u32], deadlines: &[u32], operations: &[u32], part: &mut [u8])
-    requires even { Even arrivals.now deadlines.now operations.now }
-    requires room { 12 * length arrivals.now ≤ length part.old }
-    ensures puts { Puts part.old 0 (records_up_to arrivals.now deadlines.now operations.now (length arrivals.now)) (12 * length arrivals.now) part.new }
-    ensures records_fit { RecordsFit arrivals.now deadlines.now operations.now (length arrivals.now) }
+// Writes the records of a list at the front of a part. Each is lent the part from its place on.
+fn write_records(list: ReportList<'_>, part: &mut [u8])
+    requires even { Even list.arrivals.now list.deadlines.now list.operations.now }
+    requires room { 12 * length list.arrivals.now ≤ length part.old }
+    ensures puts { Puts part.old 0 (records_up_to list.entry.arrivals.now list.entry.deadlines.now list.entry.operations.now (length list.entry.arrivals.now)) (12 * length list.entry.arrivals.now) part.new }
+    ensures records_fit { RecordsFit list.entry.arrivals.now list.entry.deadlines.now list.entry.operations.now (length list.entry.arrivals.now) }
 {
-    let mut i = 0;
-    while i < arrivals.len() {
+    for i in 0..list.arrivals.len() {
         let at = Trailer::RECORD * i;
-        write_record(arrivals[i], deadlines[i], operations[i], &mut part[at..]);
-        i += 1;
+        write_record(
+            list.arrivals[i],
+            list.deadlines[i],
+            list.operations[i],
+            &mut part[at..],
+        );
     }
 }
 
@@ -108,40 +136,36 @@ fn write_records(arrivals: &[u32], deadlines: &[u32], operations: &[u32], part: 
 fn write_trailer(trailer: Trailer, part: &mut [u8])
     requires room { 16 ≤ length part.old }
     requires few { trailer.count ≤ 1024 }
+    requires narrow { (trailer.terms.p ≤ 65535) × (trailer.terms.q ≤ 65535) }
     ensures puts { Puts part.old 0 (trailer_bytes trailer) 16 part.new }
     ensures reference_fits { trailer.terms.reference < 2 ^ 32 }
 {
     let back = Trailer::BYTES + Trailer::RECORD * trailer.count as usize;
     let terms = trailer.terms;
-    put::put_u32(back as u32, part, 0);
-    put::put_u32(terms.reference, part, 4);
-    put::put_u16(trailer.count, part, 8);
-    put::put_u16(terms.p, part, 10);
-    put::put_u16(terms.q, part, 12);
-    part[14..16].copy_from_slice(&Trailer::MARK);
+    let at = put(&(back as u32).to_le_bytes(), part, 0);
+    let at = put(&terms.reference.to_le_bytes(), part, at);
+    let at = put(&(trailer.count as u16).to_le_bytes(), part, at);
+    let at = put(&(terms.p as u16).to_le_bytes(), part, at);
+    let at = put(&(terms.q as u16).to_le_bytes(), part, at);
+    put(&Trailer::MARK, part, at);
 }
 
 // Writes a roll at the front of a part: the records, and the trailer behind them. Its length comes back.
-fn write_roll(
-    arrivals: &[u32],
-    deadlines: &[u32],
-    operations: &[u32],
-    terms: Roll,
-    part: &mut [u8],
-) -> usize
-    requires even { Even arrivals.now deadlines.now operations.now }
-    requires few { length arrivals.now ≤ 1024 }
-    requires room { roll_long (length arrivals.now) ≤ length part.old }
-    ensures puts { Puts part.old 0 (roll_bytes (record { arrivals = arrivals.now; deadlines = deadlines.now; operations = operations.now; terms = terms })) result part.new }
-    ensures records_fit { RecordsFit arrivals.now deadlines.now operations.now (length arrivals.now) }
-    ensures reference_fits { terms.reference < 2 ^ 32 }
+fn write_roll(list: ReportList<'_>, part: &mut [u8]) -> usize
+    requires even { Even list.arrivals.now list.deadlines.now list.operations.now }
+    requires few { length list.arrivals.now ≤ 1024 }
+    requires narrow { (list.terms.p ≤ 65535) × (list.terms.q ≤ 65535) }
+    requires room { roll_long (length list.arrivals.now) ≤ length part.old }
+    ensures puts { Puts part.old 0 (roll_bytes (listing list.entry)) result part.new }
+    ensures records_fit { RecordsFit list.entry.arrivals.now list.entry.deadlines.now list.entry.operations.now (length list.entry.arrivals.now) }
+    ensures reference_fits { list.entry.terms.reference < 2 ^ 32 }
 {
-    let n = arrivals.len();
+    let n = list.arrivals.len();
     let at = Trailer::RECORD * n;
-    write_records(arrivals, deadlines, operations, part);
+    write_records(list, part);
     let trailer = Trailer {
         count: n as u32,
-        terms,
+        terms: list.terms,
     };
     write_trailer(trailer, &mut part[at..]);
     at + Trailer::BYTES
@@ -150,37 +174,17 @@ fn write_roll(
 // Writes the roll of a list into a buffer, from a place on: the part from there on is lent to those who
 // write the records and the trailer. What comes back, and what the buffer then holds, is WriteOutcome,
 // for every input; and what is written reads back.
-pub fn write(
-    arrivals: &[u32],
-    deadlines: &[u32],
-    operations: &[u32],
-    terms: Roll,
-    out: &mut [u8],
-    at: usize,
-) -> WriteReply
-    ensures write_outcome { WriteOutcome (record { arrivals = arrivals.now; deadlines = deadlines.now; operations = operations.now; terms = terms }) out.old at result.number result.place result.bytes out.new }
-    ensures reads_back { result.number ≡ 0 → ReadsBack (take (at + result.bytes) out.new) (record { arrivals = arrivals.now; deadlines = deadlines.now; operations = operations.now; terms = terms }) }
+pub fn write(list: ReportList<'_>, out: &mut [u8], at: usize) -> Wrote
+    ensures write_outcome { WriteOutcome (listing list.entry) out.old at (number_of result) (place_of result) (bytes_of result) out.new }
+    ensures reads_back { IfOk result (λ bytes. ReadsBack (take (at + bytes) out.new) (listing list.entry)) }
 {
-    let tried = write_rules(
-        Verdict::Silent,
-        arrivals.len(),
-        deadlines.len(),
-        operations.len(),
-        terms,
+    write_rules(
+        list.arrivals.len(),
+        list.deadlines.len(),
+        list.operations.len(),
+        list.terms,
         at,
         out.len(),
-    );
-    if let Verdict::Given(refusal) = tried {
-        return WriteReply {
-            number: refusal.number,
-            place: refusal.place,
-            bytes: 0,
-        };
-    }
-    let bytes = write_roll(arrivals, deadlines, operations, terms, &mut out[at..]);
-    WriteReply {
-        number: 0,
-        place: 0,
-        bytes,
-    }
+    )?;
+    Ok(write_roll(list, &mut out[at..]))
 }

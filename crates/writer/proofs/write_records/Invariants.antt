@@ -1,11 +1,7 @@
 -- The records passed are put, and their numbers fit. The measure is what is left of them.
 -- Assumes nothing.
-use Rattle.std.proofs.Common.{◌-◌, length}
 use Rattle.writer.proofs.Laying.{Laid}
 use Rattle.writer.proofs.write_records.Given as goal
 
 abbrev pub invariant-loop-i : goal.invariant-loop-i
-invariant-loop-i l = Laid l.arrivals l.deadlines l.operations l.initial.part l.i l.part
-
-abbrev pub decreases-loop-i : goal.decreases-loop-i
-decreases-loop-i l = length l.arrivals - l.i
+invariant-loop-i l = Laid l.list.arrivals.now l.list.deadlines.now l.list.operations.now l.initial.part l.i l.part
