@@ -20,6 +20,7 @@ pub struct Ended<'a> {
 
 impl Ended<'_> {
     // Whether a mark stands at the end.
+    #[tactic(auto, using(crate::proofs::Marking::ends_with_mark))]
     fn ends_in(self, mark: [u8; 2]) -> bool
         ensures { result ≡ ends_in self.entry.file.now mark }
     {
@@ -41,6 +42,7 @@ impl Ended<'_> {
     }
 
     // The trailer's bytes.
+    #[tactic(auto, using(crate::proofs::Marking::with_floor, crate::proofs::Marking::without_floor))]
     pub fn trailer_bytes(self) -> usize
         ensures { result ≡ trailer_long self.entry.file.now }
     {
@@ -80,6 +82,7 @@ impl Ended<'_> {
     }
 
     // Whether the back distance is not that of the record count.
+    #[tactic(auto, using(crate::proofs::Marking::trailer_range))]
     fn bad_back(self) -> bool
         ensures { Tells (back_of self.entry.file.now ≡ trailer_long self.entry.file.now + 12 * count_of self.entry.file.now → ⊥) result }
     {
@@ -104,6 +107,7 @@ impl Ended<'_> {
 }
 
 // Whether a roll is shorter than its trailer.
+#[tactic(auto, using(crate::proofs::Marking::trailer_range))]
 pub fn short(file: &[u8]) -> bool
     ensures { Tells (length file.now < trailer_long file.now) result }
 {

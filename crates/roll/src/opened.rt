@@ -35,6 +35,7 @@ impl<'a> Opened<'a> {
     }
 
     // The floor in the trailer: R and T come first.
+    #[tactic(auto, using(crate::proofs::Marking::with_floor, crate::proofs::Marking::without_floor, crate::proofs::FileRules::long_with_floor))]
     fn floor(self) -> Option<Pace>
         ensures { result ≡ floor_of self.entry.roll.file.now }
     {
@@ -59,6 +60,7 @@ impl<'a> Opened<'a> {
     }
 
     // Where the records begin: the back distance before the end.
+    #[tactic(auto, using(crate::proofs::FileRules::reaches))]
     fn records_at(self) -> usize
         ensures { result ≡ records_at self.entry.roll.file.now }
     {
@@ -74,6 +76,7 @@ impl<'a> Opened<'a> {
     }
 
     // What is read, in numbers.
+    #[tactic(auto, using(crate::proofs::HandsBack::numbers_read))]
     pub fn numbers(self) -> Numbers
         ensures { NumbersIs self.entry.roll.file.now result }
     {
