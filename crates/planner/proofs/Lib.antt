@@ -1,8 +1,10 @@
 pub mod Through
 pub mod Searching
+pub mod Steps
 pub mod Writing
 pub mod Building
 pub mod Outcomes
+pub mod Offsets
 pub mod OneResult
 pub mod SomeResult
 pub mod Demands

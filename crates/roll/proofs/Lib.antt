@@ -5,3 +5,4 @@ pub mod OneResult
 pub mod HandsBack
 pub mod Preface
 pub mod Demands
+pub mod Walking

@@ -14,6 +14,8 @@ use lib.Seq.{drop-cons, drop-length}
 use Rattle.std.specs.List.{ends_with}
 use Rattle.std.proofs.Math.Bool.{and-true}
 use borrow.Author.Tests.{eqb-true, eq-eqb, ne_eqb}
+use Rattle.trials.specs.Tries.{Tells}
+use Rattle.trials.proofs.Trying.{tells_yes}
 use Rattle.trials.proofs.Deciding.{Decidable}
 use Rattle.fraction.proofs.Scale.{cases}
 use Rattle.std.specs.Prelude.{None, Some}
@@ -92,9 +94,15 @@ module _ (s : List ℕ) where
       go true f = absurd (omega (arith, (its_bytes s _ e).1, (its_bytes s _ f).1))
       go false f = f
 
-  -- ---- neither mark
+  -- ---- the test of rule 11
+  pub not_unmarked : Marked s → Tells (Marked s → ⊥) false
+  not_unmarked m = record { yes = λ e. absurd (true≢false (sym e)); no = λ _ n. n m }
+
   pub neither : ends_in s mark ≡ false → has_floor s ≡ false → Marked s → ⊥
   neither e f m = ⊎_elim (λ g. true≢false (sym g ∙ e)) (λ g. true≢false (sym g ∙ f)) m.is
+
+  pub is_unmarked : ends_in s mark ≡ false → has_floor s ≡ false → Tells (Marked s → ⊥) true
+  is_unmarked e f = tells_yes (neither e f)
 
 unfoldable pub dec_marked : {s : List ℕ} → Decidable (Marked s)
 dec_marked {s} = record { decided = go (ends_in s mark) refl (has_floor s) refl }

@@ -4,7 +4,7 @@ ghost use Rattle.answers.specs.Numbers.{number_of, place_of, blocks_of};
 ghost use Rattle.trials.specs.Rules.{Accepted, Refuses};
 ghost use Rattle.planner.specs.Outcome.{PlanOutcome};
 ghost use Rattle.roll.specs.Format.{file_rules, floor_of, records_at, records_long, input_in, RollOutcome};
-ghost use Rattle.roll.specs.Once.{Accepted-prop};
+ghost use Rattle.trials.specs.Once.{Accepted-prop};
 ghost use Rattle.roll.specs.Answers.{EndingIs, NumbersIs, PartIs};
 
 use crate::marks::{Ended, short};

@@ -2,7 +2,7 @@
 -- Assumes nothing.
 use Prim.Native.Nat.{ℕ, ◌+◌, ◌*◌, ◌/◌, ◌%◌, ◌≤◌}
 use mathlib.Core.Path.{◌≡◌, refl, ◌∙◌, ap, ap₂, subst}
-use mathlib.Core.List.{List}
+use mathlib.Core.List.{List, ◌++◌}
 use native.Mathlib.Omega.{arith}
 use lib.ListN.{length, get_or}
 use Rattle.std.specs.Int.{w32, to_le_bytes}
@@ -60,3 +60,12 @@ pub trailer_put :
 trailer_put t f g h k l m n o u v w =
     let all = puts_then (puts_then (puts_then (puts_then (puts_then (puts_as f m) (puts_as g n)) (puts_as h o)) (puts_as k u)) (puts_as l v)) w in
     puts_to all.behind all
+
+-- equal numbers, equal trailers
+pub same_trailer :
+    (t : Trailer) (back reference count p q : ℕ) → back ≡ roll_long t.count → reference ≡ t.terms.reference → count ≡ t.count → p ≡ t.terms.p → q ≡ t.terms.q →
+    le32 back ++ le32 reference ++ le16 count ++ le16 p ++ le16 q ++ mark ≡ trailer_bytes t
+same_trailer t back reference count p q e f g h k =
+    ap (λ (x : ℕ). le32 x ++ le32 reference ++ le16 count ++ le16 p ++ le16 q ++ mark) e
+    ∙ ap₂ (λ (x y : ℕ). le32 (roll_long t.count) ++ le32 x ++ le16 y ++ le16 p ++ le16 q ++ mark) f g
+    ∙ ap₂ (λ (x y : ℕ). le32 (roll_long t.count) ++ le32 t.terms.reference ++ le16 t.count ++ le16 x ++ le16 y ++ mark) h k
