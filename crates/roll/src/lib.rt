@@ -145,11 +145,16 @@ pub fn read_numbers(file: &[u8]) -> Numbers
     read(file).numbers
 }
 
-// The part of the caller's bytes that holds the records; no bytes where the roll is refused.
+// The part of the caller's bytes that holds the records. A refused roll ends the reading at once: no
+// bytes.
+#[tactic(auto, using(crate::proofs::FileRules::refused_part))]
 pub fn records(file: &[u8]) -> &[u8]
     ensures { PartIs file.entry result }
 {
-    read(file).part
+    let Ok(roll) = Opened::open(file) else {
+        return &file[0..0];
+    };
+    roll.part()
 }
 
 // Plans the list in a roll, by all the rules, file rules first. What comes back, and what the row
