@@ -12,8 +12,8 @@ fn finish(report: Report, terms: Roll, before: u64) -> u64
     requires { (report.operations ≤ 65535) × (terms.p ≤ 65535) × (terms.q ≤ 65535) × (before < 2 ^ 63) }
     ensures { result ≡ max (terms.q * report.arrival) before + report.operations * terms.p }
 {
-    let arrived = (terms.q as u64) * (report.arrival as u64);
-    let work = (report.operations as u64) * (terms.p as u64);
+    let arrived = u64::from(terms.q) * u64::from(report.arrival);
+    let work = u64::from(report.operations) * u64::from(terms.p);
     arrived.max(before) + work
 }
 
@@ -21,7 +21,7 @@ fn finish(report: Report, terms: Roll, before: u64) -> u64
 fn due(report: Report, terms: Roll) -> u64
     ensures { result ≡ terms.q * report.deadline }
 {
-    (terms.q as u64) * (report.deadline as u64)
+    u64::from(terms.q) * u64::from(report.deadline)
 }
 
 // The first report without a plan, or none where there is a plan for all.
