@@ -63,7 +63,7 @@ impl Refusal {
 // The answer: the block count, or the refusal.
 pub type Answer = Result<usize, Refusal>;
 
-// An answer in 01's numbers: number, place and block count.
+// An answer in 01's numbers: number, place and block count. Numbers, and no Result, since C reads them.
 #[repr(C)]
 #[derive(Clone, Copy)]
 pub struct Reply {

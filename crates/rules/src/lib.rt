@@ -61,7 +61,8 @@ impl Roll {
     }
 }
 
-// A list of reports, a number of each in each of three lists, with the terms that it comes with.
+// A list of reports, a number of each in each of three lists, with the terms that it comes with. Three
+// slices, and none of reports, since the entry points for C and 01's planner are handed three lists.
 #[derive(Clone, Copy)]
 pub struct ReportList<'a> {
     pub arrivals: &'a [u32],
@@ -127,7 +128,8 @@ fn floor_below(floor: Option<Pace>, terms: Roll) -> bool
 }
 
 // Rules 1 to 4, 16 and 17, of how long the lists and the row buffer are, of the terms and of the floor.
-// One line a rule: whether it is given, and what for.
+// One line a rule: whether it is given, and what for. It takes three lengths, and no list, since a roll's
+// are known before its columns are read.
 pub fn count_rules(
     arrivals: usize,
     deadlines: usize,

@@ -26,7 +26,7 @@ fn planned(list: ReportList<'_>, floor: Option<Pace>, rows: &mut [u32]) -> Reply
 }
 
 // Plans a list: three lists of readings, the reference, P and Q, and a buffer for rows. There is no
-// floor.
+// floor. With a floor there is a function of its own, since C can leave no argument out.
 pub fn vakrhildo_plan(
     arrivals: &[u32],
     deadlines: &[u32],

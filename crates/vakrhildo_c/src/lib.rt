@@ -1,5 +1,6 @@
 // The static library for C: the functions of the crate vakrhildo under the same names, with the same
-// promises. include/vakrhildo.h declares them.
+// promises. include/vakrhildo.h declares them. They stand twice since a crate is a library or a static
+// library, and not both.
 #![tactic(auto)]
 
 ghost use Rattle.std.specs.Prelude.{◌≡◌, ◌+◌, take, None, Some};
