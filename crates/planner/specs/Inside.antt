@@ -90,10 +90,11 @@ pub record EndIs (ℓ : Reports) (s p : ℕ) (e : End) : Type 0 where
   pub operations_are : e.operations ≡ span ℓ.operations p e.last
   pub found : (fastest : Fraction) → Ready ℓ fastest s p k → Found ℓ fastest k (row_of ℓ s p e.last e.time)
 
--- What one report does to the search: it ends it, or it joins.
+-- What one report does to the search, as the code says it: it ends it (Break), or it joins and the search goes on (Continue).
 abbrev pub Step : Type 0
 Step = ControlFlow End Kept
 
+-- Each is right: the end is that of a block, or what is kept then is right for the reports up to this one.
 abbrev pub StepIs : Reports → ℕ → ℕ → ℕ → Step → Type 0
 StepIs ℓ s p next (Break e) = EndIs ℓ s p e
 StepIs ℓ s p next (Continue kept) = KeptIs ℓ s p kept × (kept.next ≡ next + 1)
