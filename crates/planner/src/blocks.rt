@@ -9,7 +9,8 @@ use answers::Row;
 use std::ops::ControlFlow;
 
 // Writes row k of a buffer, number by number: copy_from_slice lays the row on the stack first, which cost
-// a tenth of all instructions on a list of 1,024 reports in 854 blocks (callgrind).
+// a tenth of all instructions on a list of 1,024 reports in 854 blocks (callgrind), more than the same
+// search in Rust takes, which docs/BENCHMARKS.md has as the bar.
 fn put_row(rows: &mut [u32], k: usize, row: Row)
     requires { width * k + width ≤ length rows.old }
     ensures { rows.new ≡ put_row rows.old k (numbers_of row) }
@@ -23,7 +24,7 @@ fn put_row(rows: &mut [u32], k: usize, row: Row)
 
 // Finds the blocks of the list, writes their rows and returns how many there are. The rows stand in the
 // caller's buffer with their number beside it: the buffer is lent through C, and there is no heap. The
-// outer loop counts nothing: each turn goes on behind the block that it found. The search stands inside it
+// outer loop counts no index: each turn goes on behind the block that it found. The search stands inside it
 // and is left with the block's end, as 01 asks for.
 pub fn blocks(fair: FairList<'_>, rows: &mut [u32]) -> usize
     requires { width * length fair.list.arrivals.now ≤ length rows.old }
@@ -42,6 +43,7 @@ pub fn blocks(fair: FairList<'_>, rows: &mut [u32]) -> usize
                 ControlFlow::Continue(next) => kept = next,
             }
         };
+        // `as`: both fit, by the list's length; try_from would bring an unwrap with the same proof.
         let row = Row {
             first: first as u32,
             last: end.last as u32,

@@ -68,7 +68,7 @@ impl<'a> Opened<'a> {
         self.roll.file.len() - reach
     }
 
-    // How many bytes they are.
+    // How many bytes they are. (`as`, here and below: usize is no From<u32>.)
     fn records_long(self) -> usize
         ensures { result ≡ records_long self.entry.roll.file.now }
     {

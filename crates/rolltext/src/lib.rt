@@ -41,6 +41,7 @@ fn say(answer: Answer, rows: &[u32], out: &mut [u8]) -> usize
 {
     let reply = Reply::from(answer);
     let number = u64::from(reply.number);
+    // `as`: u64 is no From<usize>.
     let place = reply.place as u64;
     text::plan_text(number, place, reply.blocks, rows, out)
 }

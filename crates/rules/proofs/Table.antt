@@ -12,7 +12,7 @@ use Rattle.fraction.specs.Fraction.{Fraction}
 use Rattle.critical.specs.Reports.{Reports, Working}
 use Rattle.critical.proofs.Theorems.{one_place}
 use Rattle.rules.specs.declared.Roll.{Roll}
-use Rattle.std.specs.Prelude.{Option, Ok}
+use Rattle.std.specs.Prelude.{Option}
 use Rattle.fraction.specs.declared.Pace.{Pace}
 use Rattle.rules.specs.Offsets.{Input, reports_of}
 use Rattle.rules.specs.Rules.{count_rules, operations_rule, plan_rule, earlier_rules, plan_rules}
@@ -27,11 +27,11 @@ one_plan_rule {ℓ} {f} s = record { single = (one_place ℓ f, s.single) }
 pub single_rules : (x : Input) → Soles (plan_rules x)
 single_rules x = search (singly, one_plan_rule) depth 40
 
--- The promise of `count_rules` allows one verdict.
+-- The promise of `count_rules` allows one verdict; so it does behind any verdict so far.
 pub one_count_verdict :
-    (arrivals deadlines operations : ℕ) (terms : Roll) (floor : Option Pace) (room : ℕ) (r s : Verdict) →
-    After (Ok tt) (count_rules arrivals deadlines operations terms floor room) r → After (Ok tt) (count_rules arrivals deadlines operations terms floor room) s → r ≡ s
-one_count_verdict arrivals deadlines operations terms floor room r s = one_after (Ok tt) r s (search singly depth 40)
+    (so_far : Verdict) (arrivals deadlines operations : ℕ) (terms : Roll) (floor : Option Pace) (room : ℕ) (r s : Verdict) →
+    After so_far (count_rules arrivals deadlines operations terms floor room) r → After so_far (count_rules arrivals deadlines operations terms floor room) s → r ≡ s
+one_count_verdict so_far arrivals deadlines operations terms floor room r s = one_after so_far r s (search singly depth 40)
 
 -- the rules before the last can be decided
 unfoldable pub decided : (x : Input) → Decides (earlier_rules x)

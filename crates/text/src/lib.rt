@@ -42,6 +42,7 @@ pub fn plan_text(number: u64, place: u64, blocks: usize, rows: &[u32], out: &mut
     if out.len() < Text::FIRST + Text::LINE * blocks {
         return 0;
     }
+    // `as`: u64 is no From<usize>.
     let behind = lines::put_first(number, place, blocks as u64, out);
     behind + lines::put_rows(rows, blocks, &mut out[behind..])
 }

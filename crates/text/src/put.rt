@@ -5,7 +5,8 @@ ghost use Rattle.text.specs.Text.{decimal, line, line_room};
 
 use lists::put;
 
-// A number, in decimal: it has at most 20 digits.
+// A number, in decimal: it has at most 20 digits. The kit's io::decimal gives them, since no law ties
+// std's decimal text to the definition here (specs/Text.antt).
 fn put_number(n: u64, out: &mut [u8]) -> usize
     requires { 20 ≤ length out.old }
     ensures puts { Puts out.old 0 (decimal n) result out.new }

@@ -153,3 +153,7 @@ refuses {rules} {v} {a} x e = given_is rules v a e x.is
 -- and the same where a `?` hands it on, as the refusal of another function
 pub refuses_on : {X : Type 0} {rules : List Rule} {v : Verdict} {a : Refusal} {r : Result X Refusal} → After (Ok tt) rules v → v ≡ Err a → IsErr r × IsErrAnd r (λ e. e ≡ a) → Refuses rules a × (r ≡ Err a)
 refuses_on {r = r} x e h = let p = err_from_is_err_and r h.1 in (refuses x e, p.1 ∙ ap Err p.2)
+
+-- a test that holds
+pub or_given : (b : Bool) (fault : Fault) → b ≡ true → Err (record { fault = fault; place = 0 }) ≡ refuse_if b fault
+or_given b fault t = sym (subst (λ (x : Bool). refuse_if x fault ≡ Err (record { fault = fault; place = 0 })) (sym t) refl)

@@ -2,13 +2,6 @@
 // reads it. The bytes are specs/Bytes.antt, what comes back specs/Writing.antt.
 #![tactic(auto)]
 
-ghost use Rattle.std.specs.Prelude.{◌≡◌, ◌⊎◌, ◌+◌, ◌*◌, ◌^◌, ◌≤◌, ◌<◌, length, take};
-ghost use Rattle.lists.specs.Puts.{Puts};
-ghost use Rattle.trials.specs.Tries.{Tells, After};
-ghost use Rattle.rules.specs.Leaves.{Even};
-ghost use Rattle.writer.specs.Bytes.{record_bytes, records_up_to, roll_long, trailer_bytes, roll_bytes, ReadsBack};
-ghost use Rattle.writer.specs.Writing.{write_rules, WriteOutcome};
-ghost use Rattle.writer.specs.Inside.{RecordFits, RecordsFit};
 ghost use Rattle.std.specs.Prelude.{◌≡◌, ◌⊎◌, ◌+◌, ◌*◌, ◌^◌, ◌≤◌, ◌<◌, length, take, Ok, IfOk};
 ghost use Rattle.answers.specs.Numbers.{number_of, place_of};
 ghost use Rattle.lists.specs.Puts.{Puts};
@@ -27,7 +20,8 @@ use trials::{Verdict, refuse_if};
 // What the writer answers: how many bytes were written, or the refusal.
 pub type Wrote = Result<usize, Refusal>;
 
-// The same in 01's numbers, as C takes it: the number of the refusal, 0 where there is none; its place, 0
+// The same in 01's numbers, as C takes it (a struct of its own beside Reply, since C calls its last field
+// bytes): the number of the refusal, 0 where there is none; its place, 0
 // always; and how many bytes were written, 0 on a refusal.
 #[repr(C)]
 #[derive(Clone, Copy)]
@@ -84,26 +78,21 @@ fn no_room(reports: usize, at: usize, room: usize) -> bool
 }
 
 // The writer's rules: 1, 2, 4 and 15. One line a rule: whether it is given, and what for.
-fn write_rules(
-    arrivals: usize,
-    deadlines: usize,
-    operations: usize,
-    terms: Roll,
-    at: usize,
-    room: usize,
-) -> Verdict
-    ensures { After (Ok tt) (write_rules arrivals deadlines operations terms at room) result }
+fn write_rules(list: ReportList<'_>, at: usize, room: usize) -> Verdict
+    ensures { After (Ok tt) (write_rules (length list.entry.arrivals.now) (length list.entry.deadlines.now) (length list.entry.operations.now) list.entry.terms at room) result }
 {
+    let reports = list.arrivals.len();
     refuse_if(
-        rules::uneven(arrivals, deadlines, operations),
+        rules::uneven(reports, list.deadlines.len(), list.operations.len()),
         Fault::Lengths,
     )?;
-    refuse_if(Roll::REPORTS < arrivals, Fault::TooMany)?;
-    refuse_if(too_wide(terms), Fault::BadPace)?;
-    refuse_if(no_room(arrivals, at, room), Fault::NoRoom)
+    refuse_if(Roll::REPORTS < reports, Fault::TooMany)?;
+    refuse_if(too_wide(list.terms), Fault::BadPace)?;
+    refuse_if(no_room(reports, at, room), Fault::NoRoom)
 }
 
-// The two low bytes of a number.
+// The two low bytes of a number. (`as`, here and below, where what is cast fits: try_from would bring an
+// unwrap with the same proof; and usize is no From<u32>.)
 fn low(n: u32) -> [u8; 2]
     ensures { result ≡ le16 n }
 {
@@ -183,13 +172,6 @@ pub fn write(list: ReportList<'_>, out: &mut [u8], at: usize) -> Wrote
     ensures write_outcome { WriteOutcome (listing list.entry) out.old at (number_of result) (place_of result) (bytes_of result) out.new }
     ensures reads_back { IfOk result (λ bytes. ReadsBack (take (at + bytes) out.new) (listing list.entry)) }
 {
-    write_rules(
-        list.arrivals.len(),
-        list.deadlines.len(),
-        list.operations.len(),
-        list.terms,
-        at,
-        out.len(),
-    )?;
+    write_rules(list, at, out.len())?;
     Ok(write_roll(list, &mut out[at..]))
 }
