@@ -18,7 +18,7 @@ ghost use Rattle.roll.specs.Answers.{TrailerAnswerIs, floor_numbers, NumbersIs, 
 
 // The numbers that every trailer has: the record count, and the terms that the list comes with.
 #[repr(C)]
-#[derive(Clone, Copy)]
+#[derive(Clone, Copy, Default)]
 pub struct Trailer {
     pub count: u32,
     pub terms: Roll,
@@ -47,7 +47,7 @@ pub struct Ending {
 // A floor in numbers: 1, R and T where there is one; all 0 where there is none. A flag, and no Option,
 // since C reads it.
 #[repr(C)]
-#[derive(Clone, Copy)]
+#[derive(Clone, Copy, Default)]
 pub struct FloorNumbers {
     pub given: u32,
     pub r: u32,
@@ -60,11 +60,7 @@ impl From<Option<Pace>> for FloorNumbers {
 
     fn from(floor: Option<Pace>) -> FloorNumbers {
         match floor {
-            None => FloorNumbers {
-                given: 0,
-                r: 0,
-                t: 0,
-            },
+            None => FloorNumbers::default(),
             Some(pace) => FloorNumbers {
                 given: 1,
                 r: pace.ticks,
@@ -78,7 +74,7 @@ impl From<Option<Pace>> for FloorNumbers {
 // numbers; those of the floor; and where the part with the records lies, and its size. On a refusal all
 // but its number are 0. A number, and no Result, and a place and a size, since C reads them.
 #[repr(C)]
-#[derive(Clone, Copy)]
+#[derive(Clone, Copy, Default)]
 pub struct Numbers {
     pub refusal: u32,
     pub trailer: Trailer,
@@ -92,17 +88,9 @@ impl From<Refusal> for Numbers {
     ghost from_gives = { λ refusal numbers. numbers ≡ numbers_refused (number refusal.fault) };
 
     fn from(refusal: Refusal) -> Numbers {
-        let terms = Roll {
-            reference: 0,
-            p: 0,
-            q: 0,
-        };
         Numbers {
             refusal: refusal.number(),
-            trailer: Trailer { count: 0, terms },
-            floor: FloorNumbers::from(None),
-            at: 0,
-            size: 0,
+            ..Numbers::default()
         }
     }
 }

@@ -41,7 +41,7 @@ impl Report {
 // The terms that a list comes with, what a roll says beside its reports: the reference reading, and
 // the fastest pace P/Q.
 #[repr(C)]
-#[derive(Clone, Copy)]
+#[derive(Clone, Copy, Default)]
 pub struct Roll {
     pub reference: u32,
     pub p: u32,
