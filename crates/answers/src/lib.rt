@@ -44,7 +44,8 @@ pub enum Fault {
     FloorBelow = 17,
 }
 
-// A refusal: what it is given for, and the report it concerns, 0 where no report is.
+// A refusal: what it is given for, and the report it concerns, 0 where no report is. No Option, since 0
+// is 01's own place there.
 #[derive(Clone, Copy, PartialEq, Eq)]
 pub struct Refusal {
     pub fault: Fault,

@@ -17,7 +17,7 @@ impl FairList<'_> {
     ghost use Rattle.trials.specs.Tries.{Tells};
     ghost use Rattle.planner.specs.Inside.{report_in, FloorIs, Joins};
 
-    // Report i.
+    // Report i. (That a report is on the list is asked by each method: it is about that argument alone.)
     pub fn report(&self, i: usize) -> Report
         requires { i < length self.now.list.arrivals.now }
         ensures { result ≡ report_in self.now.list i }

@@ -118,7 +118,8 @@ impl Search<'_> {
         self.judge(kept, high, low)
     }
 
-    // The search begins with the block's first report.
+    // The search begins with the block's first report. Its two marks are made as take makes those of the
+    // next: one function for both would give a pair, by a contract of its own, for two lines.
     pub fn begin(&self) -> Kept
         ensures kept_is { KeptIs (reports_in self.now.fair.list) self.now.from self.now.first result }
         ensures next { result.next ≡ self.now.first + 1 }

@@ -95,7 +95,9 @@ impl From<Refusal> for Numbers {
     }
 }
 
-// What the reader hands back: the numbers, and the part of the caller's bytes that holds the records.
+// What the reader hands back: the numbers, and the part of the caller's bytes that holds the records. No
+// Result: reading could not fail, and what is said of a refused roll, its number and no bytes, stands in
+// NumbersIs and PartIs.
 #[derive(Clone, Copy)]
 pub struct Reading<'a> {
     pub numbers: Numbers,

@@ -62,6 +62,7 @@ fn main(rt: HostRuntime) -> io::Result<()> {
     let mut input = [0u8; INPUT];
     let mut rows = [0u32; Program::ROWS];
     let mut out = [0u8; Program::TEXT];
+    // No heap: a buffer, and beside it how much of it was read.
     let n = match read_all(&mut rt.stdin(), &mut input) {
         Ok(n) => n,
         Err(error) => return fail(&rt, "reading standard input", error),

@@ -46,7 +46,8 @@ fn say(answer: Answer, rows: &[u32], out: &mut [u8]) -> usize
     text::plan_text(number, place, reply.blocks, rows, out)
 }
 
-// The text for an input, at the front of out; its length comes back, 0 where out has no room for it.
+// The text for an input, at the front of out; its length comes back, 0 where out has no room for it, as
+// from plan_text.
 pub fn roll_text(input: &[u8], rows: &mut [u32], out: &mut [u8]) -> usize
     ensures says { Says input.now rows.old out.old result rows.new out.new }
     ensures upper_bound { result ≤ length out.new }

@@ -28,7 +28,8 @@ impl Text {
 
 // The text of an answer and its rows, at the front of out; its length comes back. Without room
 // nothing is written, and 0 comes back: no Option, since no text is empty, and who writes out so many
-// bytes of it needs no case for that.
+// bytes of it needs no case for that. A length beside the buffer, since there is no heap for a String; and
+// the three numbers by themselves, since TextIs, which is the promise, has them so.
 pub fn plan_text(number: u64, place: u64, blocks: usize, rows: &[u32], out: &mut [u8]) -> usize
     ensures text_is { TextIs number place blocks rows.now out.old result out.new }
     ensures upper_bound { result ≤ length out.new }

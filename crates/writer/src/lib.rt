@@ -110,7 +110,8 @@ fn write_record(arrival: u32, deadline: u32, operations: u32, part: &mut [u8])
     put(&operations.to_le_bytes(), part, at);
 }
 
-// Writes the records of a list at the front of a part. Each is lent the part from its place on.
+// Writes the records of a list at the front of a part. Each is lent the part from its place on. That the
+// lists are even is asked here and in write_roll alone: no type of its own for two.
 fn write_records(list: ReportList<'_>, part: &mut [u8])
     requires even { Even list.arrivals.now list.deadlines.now list.operations.now }
     requires room { 12 * length list.arrivals.now ≤ length part.old }
