@@ -45,7 +45,7 @@ pub enum Fault {
 }
 
 // A refusal: what it is given for, and the report it concerns, 0 where no report is. No Option, since 0
-// is 01's own place there.
+// is 01's own place there (place_of, and every outcome over it).
 #[derive(Clone, Copy, PartialEq, Eq)]
 pub struct Refusal {
     pub fault: Fault,
@@ -53,7 +53,7 @@ pub struct Refusal {
 }
 
 impl Refusal {
-    // Its number.
+    // Its number. (`as`: that is how Rust gives an enum's number.)
     pub fn number(self) -> u32
         ensures { result ≡ number self.fault }
     {

@@ -6,7 +6,8 @@
 ghost use Rattle.std.specs.Prelude.{◌+◌, ◌≤◌, length};
 ghost use Rattle.lists.specs.Puts.{Puts};
 
-// Puts bytes into a buffer from a place on, and gives back the place behind them.
+// Puts bytes into a buffer from a place on, and gives back the place behind them: so one puts several, one
+// behind the other, each in one call.
 pub fn put(bytes: &[u8], out: &mut [u8], at: usize) -> usize
     requires { at + length bytes.now ≤ length out.old }
     ensures { Puts out.old at bytes.now result out.new }

@@ -8,9 +8,8 @@ use crate::search::Search;
 use answers::Row;
 use std::ops::ControlFlow;
 
-// Writes row k of a buffer, number by number: copy_from_slice lays the row on the stack first, which cost
-// a tenth of all instructions on a list of 1,024 reports in 854 blocks (callgrind), more than the same
-// search in Rust takes, which docs/BENCHMARKS.md has as the bar.
+// Writes row k of a buffer. Number by number: copy_from_slice took a tenth more instructions on 1,024
+// reports in 854 blocks (callgrind), and so missed the bar of docs/BENCHMARKS.md, the same search in Rust.
 fn put_row(rows: &mut [u32], k: usize, row: Row)
     requires { width * k + width ≤ length rows.old }
     ensures { rows.new ≡ put_row rows.old k (numbers_of row) }

@@ -11,7 +11,7 @@ use rules::{Report, ReportList};
 use trials::{Verdict, refuse_at};
 
 // Rules 5 to 8, of offsets and operations, each over the whole list before the next. That the lists are
-// even is asked here alone in this crate: behind it stands a FairList.
+// even is asked by itself here alone in this crate: settle has it in Sized, and behind it is a FairList.
 pub fn form_rules(list: ReportList<'_>) -> Verdict
     requires { Even list.arrivals.now list.deadlines.now list.operations.now }
     ensures { After (Ok tt) (form_rules (reports_in list.entry)) result }

@@ -9,8 +9,8 @@ pub fn offset(reading: u32, reference: u32) -> u32
     reading.wrapping_sub(reference)
 }
 
-// The offsets of all readings, at the front of out. (After out.iter_mut().zip(readings) nothing would be
-// known of what out holds.)
+// The offsets of all readings, at the front of out. (By out.iter_mut().zip(readings) the kit would know
+// nothing of what out then holds.)
 pub fn offsets(readings: &[u32], reference: u32, out: &mut [u32])
     requires { length readings.now ≤ length out.old }
     ensures { take (length readings.now) out.new ≡ map (offset reference) readings.now }

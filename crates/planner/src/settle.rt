@@ -31,8 +31,8 @@ pub fn settle(list: ReportList<'_>, rows: &mut [u32]) -> Answer
     plan_fair(FairList { list }, rows)
 }
 
-// Rules 5 to 9 of a list of readings: their offsets are taken once, and settled. They stand in arrays of
-// the most reports that a roll has, of which the front is used: no heap.
+// Rules 5 to 9 of a list of readings: their offsets are taken once, and settled. They stand in arrays with
+// room for the most reports of a roll, of which the front is used: no heap.
 pub fn settle_readings(list: ReportList<'_>, rows: &mut [u32]) -> Answer
     requires sized { Sized list.arrivals.now list.deadlines.now list.operations.now rows.old }
     requires pace { Paced list.terms }

@@ -96,7 +96,7 @@ impl From<Refusal> for Numbers {
 }
 
 // What the reader hands back: the numbers, and the part of the caller's bytes that holds the records. No
-// Result: reading could not fail, and what is said of a refused roll, its number and no bytes, stands in
+// Result: reading cannot fail, and what is said of a refused roll, its number and no bytes, stands in
 // NumbersIs and PartIs.
 #[derive(Clone, Copy)]
 pub struct Reading<'a> {
@@ -136,7 +136,7 @@ pub fn read_numbers(file: &[u8]) -> Numbers
 }
 
 // The part of the caller's bytes that holds the records. A refused roll ends the reading at once: no
-// bytes.
+// bytes, and no Result, since this cannot fail (PartIs).
 #[tactic(auto, using(crate::proofs::FileRules::refused_part))]
 pub fn records(file: &[u8]) -> &[u8]
     ensures { PartIs file.entry result }

@@ -1,5 +1,5 @@
 // A roll's end: the marks there, and what they decide: how long the trailer is, and whether it gives a
-// floor; and the numbers in it.
+// floor; the numbers in it; and rules 11 to 13.
 ghost use Rattle.std.specs.Prelude.{◌≡◌, ◌+◌, ◌*◌, ◌≤◌, ◌<◌, length, Ok};
 ghost use Rattle.trials.specs.Tries.{Tells, After};
 ghost use Rattle.roll.specs.Format.{ends_in, has_floor, Marked, trailer_long, back_of, count_of, trailer_rules};

@@ -120,9 +120,9 @@ impl<'a> Opened<'a> {
     }
 }
 
-// Plans the list of a part, of which there are as many records as the roll's end says. There are three
-// arrays of as many numbers, since plan takes the list as three; that they are long enough for it is asked
-// of the one caller, and no type.
+// Plans the list in a part with as many records as the roll's end says. Its columns go into three arrays,
+// since plan takes three lists, with room for the most reports of a roll: no heap. That the part is long
+// enough and the records few enough is a `requires`, and no type, since there is one caller.
 fn plan_records(part: &[u8], ending: Ending, rows: &mut [u32]) -> Answer
     requires { (12 * ending.trailer.count ≤ length part.now) × (ending.trailer.count ≤ 1024) }
     ensures { PlanOutcome (input_in part.now ending.trailer.count ending.trailer.terms ending.floor rows.old) (number_of result) (place_of result) (blocks_of result) rows.new }

@@ -34,7 +34,8 @@ fn answer_input(input: &[u8], rows: &mut [u32]) -> Answer
     roll::plan_roll(input, rows)
 }
 
-// The text of an answer, at the front of out; its length comes back.
+// The text of an answer, at the front of out; its length comes back, beside the buffer, since there is no
+// heap, and TextIs has it so.
 fn say(answer: Answer, rows: &[u32], out: &mut [u8]) -> usize
     ensures text_is { TextIs (number_of answer) (place_of answer) (blocks_of answer) rows.now out.old result out.new }
     ensures upper_bound { result ≤ length out.new }

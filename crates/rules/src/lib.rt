@@ -71,7 +71,7 @@ pub struct ReportList<'a> {
     pub terms: Roll,
 }
 
-// Whether three lists differ in length.
+// Whether three lists differ in length. It takes lengths, as count_rules does.
 pub fn uneven(arrivals: usize, deadlines: usize, operations: usize) -> bool
     ensures { Tells ((arrivals ≡ deadlines → ⊥) ⊎ (arrivals ≡ operations → ⊥)) result }
 {
@@ -102,9 +102,8 @@ fn bad_floor(floor: Option<Pace>) -> bool
     }
 }
 
-// The pace of two numbers. A lower number of 0 counts as 1, as in the definition (over): with a T or Q of
-// 0 the paces are compared all the same, and what comes of it has no effect: 16 or 4, tried before 17, is
-// given.
+// The pace of two numbers. A lower number of 0 counts as 1, as in the definition (over), since the test of
+// rule 17 is promised for every input; count_rules does not come to it with one, which 4 or 16 refuses.
 fn pace_over(upper: u32, lower: u32) -> Pace
     ensures { result ≡ record { ticks = upper; operations = max 1 lower } }
 {

@@ -29,18 +29,16 @@ impl Text {
 // The text of an answer and its rows, at the front of out; its length comes back. Without room
 // nothing is written, and 0 comes back: no Option, since no text is empty, and who writes out so many
 // bytes of it needs no case for that. A length beside the buffer, since there is no heap for a String; and
-// the three numbers by themselves, since TextIs, which is the promise, has them so.
+// the three numbers by themselves, since TextIs, which is the promise, has them so. upper_bound stands here
+// and in rolltext's say and roll_text, since callers cut the text off by it.
 pub fn plan_text(number: u64, place: u64, blocks: usize, rows: &[u32], out: &mut [u8]) -> usize
     ensures text_is { TextIs number place blocks rows.now out.old result out.new }
     ensures upper_bound { result ≤ length out.new }
 {
-    if Text::MOST < blocks {
-        return 0;
-    }
-    if rows.len() < Row::WIDTH * blocks {
-        return 0;
-    }
-    if out.len() < Text::FIRST + Text::LINE * blocks {
+    if Text::MOST < blocks
+        || rows.len() < Row::WIDTH * blocks
+        || out.len() < Text::FIRST + Text::LINE * blocks
+    {
         return 0;
     }
     // `as`: u64 is no From<usize>.

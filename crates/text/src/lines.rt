@@ -24,7 +24,7 @@ fn widened(row: &[u32; Row::WIDTH]) -> [u64; Row::WIDTH]
     row.map(u64::from)
 }
 
-// One line a block.
+// One line a block. The rows are a flat buffer and a block count, as they come from plan through C.
 pub fn put_rows(rows: &[u32], blocks: usize, out: &mut [u8]) -> usize
     requires rows_long { width * blocks ≤ length rows.now }
     requires room { line_room width * blocks ≤ length out.old }

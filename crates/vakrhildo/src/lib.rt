@@ -18,8 +18,8 @@ use roll::Numbers;
 use rules::{ReportList, Roll};
 use writer::WriteReply;
 
-// Plans a list, and answers in numbers. (The callers make the list by a literal each: by a constructor
-// function the proof of each did not close without an answer.)
+// Plans a list, and answers in numbers. (The three functions below that are handed a list write it as a
+// literal: a constructor function would want a proof file more for each. C's arguments stay as they are.)
 fn planned(list: ReportList<'_>, floor: Option<Pace>, rows: &mut [u32]) -> Reply
     ensures { PlanOutcome (input list.entry floor rows.old) result.number result.place result.blocks rows.new }
 {

@@ -67,14 +67,9 @@ fn too_wide(terms: Roll) -> bool
 fn no_room(reports: usize, at: usize, room: usize) -> bool
     ensures { Tells (room < at + roll_long reports) result }
 {
-    if room < at {
-        return true;
-    }
-    let behind = room - at;
-    if behind < Trailer::BYTES {
-        return true;
-    }
-    (behind - Trailer::BYTES) / Trailer::RECORD < reports
+    room < at
+        || room - at < Trailer::BYTES
+        || (room - at - Trailer::BYTES) / Trailer::RECORD < reports
 }
 
 // The writer's rules: 1, 2, 4 and 15. One line a rule: whether it is given, and what for.
@@ -99,7 +94,8 @@ fn low(n: u32) -> [u8; 2]
     ((n & 0xffff) as u16).to_le_bytes()
 }
 
-// Writes a record at the front of a part.
+// Writes a record at the front of a part. Its three numbers come one by one, as they stand in three lists:
+// a Report would be made here for one call.
 fn write_record(arrival: u32, deadline: u32, operations: u32, part: &mut [u8])
     requires { 12 ≤ length part.old }
     ensures puts { Puts part.old 0 (record_bytes arrival deadline operations) 12 part.new }
