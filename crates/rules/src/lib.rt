@@ -92,7 +92,8 @@ fn bad_pace(upper: u32, lower: u32) -> bool
     trials::outside(upper, 1, Roll::PACE) || trials::outside(lower, 1, Roll::PACE)
 }
 
-// Whether there is a floor, R/T, and its R or T is such a number.
+// Whether there is a floor, R/T, and its R or T is such a number. (A match, here and in floor_below: by
+// is_some_and the proof did not close.)
 fn bad_floor(floor: Option<Pace>) -> bool
     ensures { Tells (OfFloor floor (λ x y. BadPace x y)) result }
 {

@@ -54,7 +54,8 @@ pub fn first_above(xs: &[u32], most: u32) -> Option<usize>
     xs.iter().position(|x| most < *x)
 }
 
-// The least i at which xs is below the number before.
+// The least i at which xs is below the number before. (A `for`: by windows(2) and position, and by find of
+// a range, the proof did not close.)
 pub fn first_fall(xs: &[u32]) -> Option<usize>
     ensures { FirstOf (length xs.now) (Falls (λ i. get_or xs.now i 0)) result }
 {
