@@ -13,7 +13,7 @@ pub fn put_first(number: u64, place: u64, blocks: u64, out: &mut [u8]) -> usize
     ensures puts { Puts out.old 0 (first_line number place blocks) result out.new }
     ensures upper_bound { result ≤ text_room 0 }
 {
-    let word = lists::put(b"plan ", out, 0);
+    let word = put::put(b"plan ", out);
     word + put::put_line(&[number, place, blocks], &mut out[word..])
 }
 

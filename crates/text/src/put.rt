@@ -3,7 +3,14 @@ ghost use Rattle.std.specs.Prelude.{◌≤◌, [], ◌∷◌, ◌++◌, length};
 ghost use Rattle.lists.specs.Puts.{Puts};
 ghost use Rattle.text.specs.Text.{decimal, line, line_room};
 
-use lists::put;
+pub fn put(text: &[u8], out: &mut [u8]) -> usize
+    requires { length text.now ≤ length out.old }
+    ensures { Puts out.old 0 text.now result out.new }
+{
+    let long = text.len();
+    out[..long].copy_from_slice(text);
+    long
+}
 
 // A number, in decimal: it has at most 20 digits. The kit's io::decimal gives them, since no law ties
 // std's decimal text to the definition here (specs/Text.antt).
@@ -14,7 +21,7 @@ fn put_number(n: u64, out: &mut [u8]) -> usize
 {
     let mut digits = [0u8; 20];
     let k = io::decimal(n, &mut digits);
-    put(&digits[..k], out, 0)
+    put(&digits[..k], out)
 }
 
 // A number of a line, with the byte that ends it: a space where others follow it, and a line feed

@@ -12,7 +12,6 @@ ghost use Rattle.writer.specs.Writing.{write_rules, WriteOutcome, bytes_of, InBy
 ghost use Rattle.writer.specs.Inside.{RecordFits, RecordsFit};
 
 use answers::{Fault, Refusal};
-use lists::put;
 use roll::Trailer;
 use rules::{ReportList, Roll};
 use trials::{Verdict, refuse_if};
@@ -92,6 +91,17 @@ fn low(n: u32) -> [u8; 2]
     ensures { result ≡ le16 n }
 {
     ((n & 0xffff) as u16).to_le_bytes()
+}
+
+// Puts bytes into a part from a place on, and gives back the place behind them. (Text has the like for the
+// front of a buffer: one function for both would be public, with a `requires`, and none here is.)
+fn put(bytes: &[u8], out: &mut [u8], at: usize) -> usize
+    requires { at + length bytes.now ≤ length out.old }
+    ensures { Puts out.old at bytes.now result out.new }
+{
+    let behind = at + bytes.len();
+    out[at..behind].copy_from_slice(bytes);
+    behind
 }
 
 // Writes a record at the front of a part. Its three numbers come one by one, as they stand in three lists:
