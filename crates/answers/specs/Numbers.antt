@@ -57,6 +57,10 @@ pub record InNumbers (answer : Answer) (reply : Reply) : Type 0 where
   pub place_is : reply.place ≡ place_of answer
   pub blocks_is : reply.blocks ≡ blocks_of answer
 
+-- The reply of a refusal with any number and place: its block count is 0.
+abbrev pub refused : ℕ → ℕ → Reply
+refused number place = record { number = number; place = place; blocks = 0 }
+
 -- A row has five numbers.
 abbrev pub width : ℕ
 width = 5

@@ -3,7 +3,7 @@
 #![tactic(auto)]
 
 ghost use Rattle.std.specs.Prelude.{◌≡◌};
-ghost use Rattle.answers.specs.Numbers.{InNumbers, number, numbers_of};
+ghost use Rattle.answers.specs.Numbers.{InNumbers, number, numbers_of, refused};
 
 // What a refusal is given for. Its number in 01's table, or in 02, is its discriminant.
 #[derive(Clone, Copy, PartialEq, Eq)]
@@ -71,6 +71,20 @@ pub struct Reply {
     pub number: u32,
     pub place: usize,
     pub blocks: usize,
+}
+
+impl Reply {
+    // The reply of a refusal with any number: a tool that tries rules of its own besides has refusals that are
+    // no Fault.
+    pub fn refused(number: u32, place: usize) -> Reply
+        ensures { result ≡ refused number place }
+    {
+        Reply {
+            number,
+            place,
+            blocks: 0,
+        }
+    }
 }
 
 impl From<Answer> for Reply {

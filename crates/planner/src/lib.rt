@@ -26,6 +26,7 @@ pub fn plan(list: ReportList<'_>, floor: Option<Pace>, rows: &mut [u32]) -> Answ
     ensures { PlanOutcome (input list.entry floor rows.old) (number_of result) (place_of result) (blocks_of result) rows.new }
 {
     count_rules(
+        Ok(()),
         list.arrivals.len(),
         list.deadlines.len(),
         list.operations.len(),

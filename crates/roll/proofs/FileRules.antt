@@ -4,6 +4,7 @@ use Prim.Native.Nat.{ℕ, ◌+◌, ◌*◌, ◌≤◌, ◌<◌}
 use mathlib.Core.Path.{◌≡◌, refl, subst, subst₂}
 use mathlib.Core.Bool.{Bool, true}
 use mathlib.Core.List.{List, [], ◌∷◌}
+use mathlib.Core.Logic.{inl, inr}
 use native.Mathlib.Omega.{arith}
 use native.Mathlib.Decide.{ℕ_discrete}
 use lib.ListN.{length}
@@ -13,7 +14,7 @@ use Rattle.answers.specs.declared.Fault.TheVariants.{ShortRoll}
 use Rattle.answers.specs.declared.Refusal.{Refusal}
 use Rattle.std.specs.Prelude.{Ok, Err}
 use Rattle.std.proofs.lemmas.List.{nil_from_length}
-use Rattle.trials.specs.Rules.{Accepted, Refuses}
+use Rattle.trials.specs.Rules.{Refused, Accepted, Refuses}
 use Rattle.trials.specs.Tries.{Tells, Verdict, RefuseIf, After}
 use Rattle.trials.proofs.Passing.{Passed, Quiet, finding, heads, both, untrue}
 use Rattle.trials.proofs.Trying.{refused_first, refused_later, overall_cons, after_none, passed, refuses}
@@ -22,7 +23,7 @@ use Rattle.fraction.proofs.Scale.{cases}
 use Rattle.roll.specs.Format.{mark, ends_in, has_floor, trailer_long, back_of, count_of, records_at, records_long, short_rule, back_rule, far_rule, trailer_rules, file_rules}
 use Rattle.roll.specs.Answers.{PartFrom, PartIs, TrailerAnswerIs, EndingIs}
 use Rattle.roll.specs.declared.Ending.{Ending}
-use Rattle.roll.proofs.Marking.{with_floor, without_floor, plain_mark}
+use Rattle.roll.proofs.Marking.{with_floor, without_floor, trailer_range, plain_mark}
 
 -- ---- what an accepted file says, with a trailer of so many bytes
 pub record FileIs (s : List ℕ) (trailer : ℕ) : Type 0 where
@@ -71,6 +72,15 @@ module _ (s : List ℕ) {v : Verdict} where
     passed_trailer f = (both (short_rule s ∷ []) (trailer_rules s) (passed t e) (passed u f)).accepted
 
 -- ---- the trailer's answer
+module _ (s : List ℕ) where
+  pub too_short_answer : length s < trailer_long s → TrailerAnswerIs s (Err (record { fault = ShortRoll; place = 0 }))
+  unfolding TrailerAnswerIs Refused
+  too_short_answer h = record { refused = inl (refl, (h, refl)) }
+
+  pub refused_trailer_answer : (length s < trailer_long s → ⊥) → {a : Refusal} → Refuses (trailer_rules s) a → TrailerAnswerIs s (Err a)
+  unfolding TrailerAnswerIs Refused
+  refused_trailer_answer long r = record { refused = inr (λ place g. long g.0, r.refused) }
+
 pub trailer_there : {s : List ℕ} {e : Ending} → Accepted (file_rules s) → EndingIs s e → TrailerAnswerIs s (Ok e)
 unfolding TrailerAnswerIs
 trailer_there a e = (a, e)
@@ -84,9 +94,9 @@ trailer_refused r = r
 pub fits_part : (s : List ℕ) → Accepted (file_rules s) → records_at s + records_long s ≤ length s
 fits_part s a = let f = file_is s (record { accepted = a }) in omega (arith, f.back_is, f.back_in)
 
--- it begins where the trailer says
-pub reaches : (s : List ℕ) → Accepted (file_rules s) → back_of s ≤ length s
-reaches s a = (file_is s (record { accepted = a })).back_in
+-- it begins where the trailer says, and the trailer is there
+pub reaches : (s : List ℕ) → Accepted (file_rules s) → (16 ≤ length s) × (back_of s ≤ length s)
+reaches s a = let f = file_is s (record { accepted = a }) in (omega (arith, (trailer_range s).0, f.long), f.back_in)
 
 -- the part that the code cuts out is the one with the records
 pub cut_part : {s part : Bor (List ℕ)} {at size : ℕ} → Accepted (file_rules s.now) → PartFrom s at size part → at ≡ records_at s.now → size ≡ records_long s.now → PartIs s part

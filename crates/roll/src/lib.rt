@@ -148,9 +148,14 @@ pub fn records(file: &[u8]) -> &[u8]
 }
 
 // Plans the list in a roll, by all the rules, file rules first. What comes back, and what the row
-// buffer then holds, is RollOutcome, for every input.
+// buffer then holds, is RollOutcome, for every input. A refused trailer ends the reading at once: its refusal
+// is handed straight up.
 pub fn plan_roll(file: &[u8], rows: &mut [u32]) -> Answer
     ensures { RollOutcome file.now rows.old (number_of result) (place_of result) (blocks_of result) rows.new }
 {
-    Opened::open(file)?.plan(rows)
+    let opened = Opened::open(file);
+    let Ok(roll) = opened else {
+        return Err(opened.unwrap_err());
+    };
+    roll.plan(rows)
 }

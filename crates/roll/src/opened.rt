@@ -109,6 +109,7 @@ impl<'a> Opened<'a> {
         let ending = self.ending();
         let count = ending.trailer.count as usize;
         count_rules(
+            Ok(()),
             count,
             count,
             count,

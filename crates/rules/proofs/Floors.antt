@@ -20,16 +20,16 @@ use Rattle.std.specs.Prelude.{Option, None, Some}
 use Rattle.fraction.specs.declared.Pace.{Pace}
 
 -- ---- tests
-module _ (P : ℕ → ℕ → Type 0) where
+module _ (P : ℕ → ℕ → Type 0) {floor : Option Pace} where
   -- nothing is so of a floor that is absent
-  pub tells_absent : Tells (OfFloor None P) false
+  pub tells_absent : floor ≡ None → Tells (OfFloor floor P) false
   unfolding OfFloor
-  tells_absent = record { yes = λ h. absurd (true≢false (sym h)); no = λ _ h. h }
+  tells_absent e = subst (λ (f : Option Pace). Tells (OfFloor f P) false) (sym e) (record { yes = λ h. absurd (true≢false (sym h)); no = λ _ h. h })
 
   -- a test of R and T tells of the floor that they make
-  pub tells_floor : {pace : Pace} {b : Bool} → Tells (P pace.ticks pace.operations) b → Tells (OfFloor (Some pace) P) b
+  pub tells_floor : {pace : Pace} {b : Bool} → floor ≡ Some pace → Tells (P pace.ticks pace.operations) b → Tells (OfFloor floor P) b
   unfolding OfFloor
-  tells_floor h = h
+  tells_floor {pace} {b} e h = subst (λ (f : Option Pace). Tells (OfFloor f P) b) (sym e) h
 
 -- two paces, compared by cross products
 pub tells_slower : (r t p q : ℕ) {slow fast : Pace} {b : Bool} → slow ≡ record { ticks = r; operations = max 1 t } → fast ≡ record { ticks = p; operations = max 1 q } → b ≡ ltb (slow.ticks * fast.operations) (fast.ticks * slow.operations) → Tells (over r t ≺ over p q) b

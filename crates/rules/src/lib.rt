@@ -2,7 +2,7 @@
 // the types that they are about, with their limits, and the rules of the whole list tried in their order.
 #![tactic(auto)]
 
-ghost use Rattle.std.specs.Prelude.{◌≡◌, ◌⊎◌, ◌*◌, ◌<◌, max, Ok};
+ghost use Rattle.std.specs.Prelude.{◌≡◌, ◌⊎◌, ◌*◌, ◌<◌, max};
 ghost use Rattle.answers.specs.Numbers.{width};
 ghost use Rattle.trials.specs.Tries.{Tells, After};
 ghost use Rattle.fraction.specs.Fraction.{◌≺◌, over};
@@ -127,10 +127,11 @@ fn floor_below(floor: Option<Pace>, terms: Roll) -> bool
     }
 }
 
-// Rules 1 to 4, 16 and 17, of how long the lists and the row buffer are, of the terms and of the floor.
-// One line a rule: whether it is given, and what for. It takes three lengths, and no list, since a roll's
-// are known before its columns are read.
+// Rules 1 to 4, 16 and 17, of how long the lists and the row buffer are, of the terms and of the floor:
+// behind the verdict so far, in which a refusal stays. One line a rule: whether it is given, and what for. It
+// takes three lengths, and no list, since a roll's are known before its columns are read.
 pub fn count_rules(
+    so_far: Verdict,
     arrivals: usize,
     deadlines: usize,
     operations: usize,
@@ -138,8 +139,9 @@ pub fn count_rules(
     floor: Option<Pace>,
     room: usize,
 ) -> Verdict
-    ensures { After (Ok tt) (count_rules arrivals deadlines operations terms floor room) result }
+    ensures { After so_far (count_rules arrivals deadlines operations terms floor room) result }
 {
+    so_far?;
     refuse_if(uneven(arrivals, deadlines, operations), Fault::Lengths)?;
     refuse_if(Roll::REPORTS < arrivals, Fault::TooMany)?;
     refuse_if(short(arrivals, room), Fault::ShortBuffer)?;

@@ -5,3 +5,4 @@ pub mod Single
 pub mod Deciding
 pub mod Numbers
 pub mod Alike
+pub mod Own

@@ -155,5 +155,9 @@ pub refuses_on : {X : Type 0} {rules : List Rule} {v : Verdict} {a : Refusal} {r
 refuses_on {r = r} x e h = let p = err_from_is_err_and r h.1 in (refuses x e, p.1 ∙ ap Err p.2)
 
 -- a test that holds
-pub or_given : (b : Bool) (fault : Fault) → b ≡ true → Err (record { fault = fault; place = 0 }) ≡ refuse_if b fault
-or_given b fault t = sym (subst (λ (x : Bool). refuse_if x fault ≡ Err (record { fault = fault; place = 0 })) (sym t) refl)
+pub if_given : (b : Bool) (fault : Fault) → b ≡ true → Err (record { fault = fault; place = 0 }) ≡ refuse_if b fault
+if_given b fault t = sym (subst (λ (x : Bool). refuse_if x fault ≡ Err (record { fault = fault; place = 0 })) (sym t) refl)
+
+-- and a search that finds a place
+pub at_given : (o : Option ℕ) (fault : Fault) (place : ℕ) → o ≡ Some place → Err (record { fault = fault; place = place }) ≡ refuse_at o fault
+at_given o fault place t = sym (subst (λ (x : Option ℕ). refuse_at x fault ≡ Err (record { fault = fault; place = place })) (sym t) refl)

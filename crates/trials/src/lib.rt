@@ -6,7 +6,7 @@
 
 ghost use Rattle.std.specs.Prelude.{◌<◌, length, get_or};
 ghost use Rattle.trials.specs.Rules.{Outside, Falls};
-ghost use Rattle.trials.specs.Tries.{Tells, FirstOf, RefuseIf, RefuseAt};
+ghost use Rattle.trials.specs.Tries.{Tells, FirstOf, OrIf, RefuseIf, RefuseAt};
 
 use answers::{Fault, Refusal};
 
@@ -31,6 +31,21 @@ pub fn refuse_at(found: Option<usize>, fault: Fault) -> Verdict
         Some(place) => Err(Refusal { fault, place }),
         None => Ok(()),
     }
+}
+
+// The verdict so far, of rules whose refusals are of any type; where none of them refuses and a test holds, this
+// refusal. It is for a tool that tries rules of its own besides: no Fault has their numbers, so their refusals
+// are of a type of the tool's.
+pub fn or_if<R: Copy>(so_far: Result<(), R>, holds: bool, refusal: R) -> Result<(), R>
+    ensures { OrIf so_far holds refusal result }
+{
+    let Ok(()) = so_far else {
+        return so_far;
+    };
+    if holds {
+        return Err(refusal);
+    }
+    Ok(())
 }
 
 // Whether a number is outside least to most.

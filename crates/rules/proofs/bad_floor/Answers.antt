@@ -3,7 +3,7 @@ use Rattle.rules.proofs.Floors.{tells_absent, tells_floor}
 use Rattle.rules.proofs.bad_floor.Goals as goal
 
 pub returns-in-Some : goal.returns-in-Some
-returns-in-Some c = rw c.in-Some.is (tells_floor _ c.bad_pace.ensures)
+returns-in-Some c = tells_floor _ c.in-Some.is c.bad_pace.ensures
 
 pub returns-in-None : goal.returns-in-None
-returns-in-None c = rw c.in-None.is (tells_absent _)
+returns-in-None c = tells_absent _ c.in-None.is

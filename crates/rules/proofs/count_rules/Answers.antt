@@ -1,6 +1,9 @@
--- One search for all the rules, in whatever order they stand: at each exit, and behind the last.
+-- One search for all the rules, in whatever order they stand: at each exit, the verdict so far first, and behind the last.
 use Rattle.trials.proofs.Trying.{trying}
 use Rattle.rules.proofs.count_rules.Goals as goal
+
+pub returns-in_err-so_far : goal.returns-in_err-so_far
+returns-in_err-so_far c = search trying depth 40 fits 8000
 
 pub returns-in_err-refuse_if : goal.returns-in_err-refuse_if
 returns-in_err-refuse_if c = search trying depth 40 fits 8000

@@ -1,9 +1,9 @@
 -- A scan, from the second number on.
-use Rattle.trials.proofs.Scanning.{scan_begins, scan_goes, scan_finds, scan_ends, falls_at, no_fall_at}
+use Rattle.trials.proofs.Scanning.{scan_begins_falls, scan_goes, scan_finds, scan_ends, falls_at, no_fall_at}
 use Rattle.trials.proofs.first_fall.Goals as goal
 
 pub loop-i-init : goal.loop-i-init
-loop-i-init c = scan_begins _
+loop-i-init c = scan_begins_falls _
 
 pub returns-then-xs-i : goal.returns-then-xs-i
 returns-then-xs-i c = scan_finds c.loop-i.invariant c.loop-i-test.true (falls_at _ _ c.loop-i.auto.i c.if-xs-i.true)
