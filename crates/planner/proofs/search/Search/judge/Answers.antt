@@ -12,14 +12,14 @@ returns-then-below-2 c = ends_by_fall _ _ _ (some c.args.self.now) _ _ _ c.requi
 
 pub returns : goal.returns
 returns c = (
-      goes_on_with _ _ _ (some c.args.self.now) _ _ _ c.requires _ _ (sym c.below.ensures ∙ c.if-below.false) (sym c.below-2.ensures ∙ c.if-below-2.false)
-          (elim c.if-high_stays.branch [
-            | then-high_stays w ↦ keeps _ (sym c.below-high_stays.ensures ∙ w.if-high_stays.true) w.next_high-is
-            | else-high_stays w ↦ takes _ (sym c.below-high_stays.ensures ∙ w.if-high_stays.false) w.next_high-is
-          ])
-          (elim c.if-low_stays.branch [
-            | then-low_stays w ↦ keeps _ (sym c.below-low_stays.ensures ∙ w.if-low_stays.true) w.next_low-is
-            | else-low_stays w ↦ takes _ (sym c.below-low_stays.ensures ∙ w.if-low_stays.false) w.next_low-is
-          ]),
-      refl,
-    )
+  goes_on_with _ _ _ (some c.args.self.now) _ _ _ c.requires _ _ (sym c.below.ensures ∙ c.if-below.false) (sym c.below-2.ensures ∙ c.if-below-2.false)
+      (elim c.if-high_stays.branch [
+        | then-high_stays w ↦ keeps _ (sym c.below-high_stays.ensures ∙ w.if-high_stays.true) w.next_high-is
+        | else-high_stays w ↦ takes _ (sym c.below-high_stays.ensures ∙ w.if-high_stays.false) w.next_high-is
+      ])
+      (elim c.if-low_stays.branch [
+        | then-low_stays w ↦ keeps _ (sym c.below-low_stays.ensures ∙ w.if-low_stays.true) w.next_low-is
+        | else-low_stays w ↦ takes _ (sym c.below-low_stays.ensures ∙ w.if-low_stays.false) w.next_low-is
+      ]),
+  refl,
+)
