@@ -4,7 +4,7 @@ use Rattle.std.proofs.Common.{◌≡◌, ℕ, suc, ◌+◌, ◌*◌, ◌<◌, �
 use Rattle.fraction.specs.Fraction.{Fraction}
 use Rattle.answers.specs.Numbers.{width, numbers_of}
 use Rattle.answers.specs.declared.Row.{Row as Numbers}
-use Rattle.critical.specs.Reports.{Reports, Working}
+use Rattle.critical.specs.Reports.{Reports, list_of, Working}
 use Rattle.critical.specs.Rows.{Row, behind}
 use Rattle.critical.proofs.Room.{Roomy}
 use Rattle.critical.proofs.Search.{Stretch, Ready, row_of}
@@ -12,8 +12,8 @@ use Rattle.critical.proofs.Cover.{behind_zero, behind_suc}
 use Rattle.critical.proofs.Chain.{begins, Link, Chain, chain_more, chain_critical}
 use Rattle.critical.proofs.Exists.{ready}
 use Rattle.planner.specs.Outcome.{row_at}
-use Rattle.planner.specs.Inside.{EndIs, BlocksIn, put_row, reports_in}
-use Rattle.planner.specs.declared.list.FairList.{FairList}
+use Rattle.rules.specs.Leaves.{Fair}
+use Rattle.planner.specs.Inside.{EndIs, BlocksIn, put_row}
 use Rattle.planner.specs.declared.search.End.{End}
 use Rattle.planner.proofs.Writing.{length-put, put_behind, row_other, row_put}
 
@@ -27,15 +27,12 @@ pub record Building (ℓ : Reports) (before : List ℕ) (count first ended : ℕ
   pub rest : (i : ℕ) → width * count ≤ i → get_or buffer i 0 ≡ get_or before i 0
   pub chain : (fastest : Fraction) → Roomy ℓ fastest → Chain ℓ fastest count (row_at buffer)
 
-module _ (fair : FairList) (before : List ℕ) (room : width * length fair.list.arrivals.now ≤ length before) where
+module _ (xs ys ws : List ℕ) (fair : Fair xs ys ws) (before : List ℕ) (room : width * length xs ≤ length before) where
   abbrev ℓ : Reports
-  ℓ = reports_in fair.list
-
-  abbrev xs : List ℕ
-  xs = fair.list.arrivals.now
+  ℓ = list_of xs ys ws
 
   working : Working ℓ
-  working i h = fair.fair.some i h
+  working i h = fair.some i h
 
   pub builds_from_nothing : Building ℓ before 0 0 0 before
   unfolding begins

@@ -1,6 +1,6 @@
 -- Offsets for readings: what holds of the lists of the ones holds of the others.
 -- Assumes nothing.
-use Rattle.std.proofs.Common.{◌≡◌, ℕ, List, map, length, sym, ap, ◌∙◌, subst₂, arith}
+use Rattle.std.proofs.Common.{◌≡◌, ℕ, List, map, length, take, sym, ap, ◌∙◌, subst, subst₂, arith}
 use Rattle.fraction.specs.Fraction.{Fraction}
 use Rattle.critical.specs.Reports.{list_of}
 use Rattle.rules.specs.Offsets.{offset, offsets_of}
@@ -8,6 +8,13 @@ use Rattle.rules.specs.Rules.{report_rules}
 use Rattle.rules.specs.Leaves.{Sized}
 use Rattle.planner.specs.Outcome.{Outcome}
 use Rattle.lists.proofs.Filling.{length-map}
+
+-- the front of a scratch array is the list of offsets
+pub front : (g : ℕ → ℕ) (from to : List ℕ) (n : ℕ) → length from ≡ n → take (length from) to ≡ map g from → take n to ≡ map g from
+front g from to n e p = subst (λ (k : ℕ). take k to ≡ map g from) e p
+
+pub front_long : (g : ℕ → ℕ) (from to : List ℕ) (n : ℕ) → length from ≡ n → take (length from) to ≡ map g from → n ≡ length (take n to)
+front_long g from to n e p = sym (ap length (front g from to n e p) ∙ length-map g from ∙ e)
 
 pub sized_offsets : (g : ℕ → ℕ) (xs ys ws zs us before : List ℕ) → us ≡ map g xs → zs ≡ map g ys → Sized xs ys ws before → Sized us zs ws before
 sized_offsets g xs ys ws zs us before e e' s =

@@ -94,6 +94,11 @@ module _ (ℓ : Reports) (terms : Roll) (paced : Paced terms) (before : List ℕ
   unfolding over
   positive = paced.p_some
 
+  -- where the pass stops, rule 9 is given
+  pub refuses_nine : (i : ℕ) → PassEnds ℓ (pace_of terms) (Some i) → Outcome (plan_rule ℓ (pace_of terms) ∷ []) ℓ (pace_of terms) before 9 i 0 before
+  unfolding Refused
+  refuses_nine i e = refused ℓ f before (plan_rule ℓ f ∷ []) 9 i (omega arith) (inl (refl, e.stops))
+
   -- where rule 9 is not given there is a plan, and so the rows are those of the plan wanted
   pub plans_all : (blocks : ℕ) (after : List ℕ) → Passed (plan_rule ℓ (pace_of terms) ∷ []) → BlocksIn ℓ before blocks after → Outcome (plan_rule ℓ (pace_of terms) ∷ []) ℓ (pace_of terms) before 0 0 blocks after
   unfolding Accepted

@@ -3,10 +3,11 @@
 use Rattle.std.proofs.Common.{◌≡◌, ℕ, suc, ◌+◌, ◌-◌, ◌*◌, ◌<◌, ◌≤◌, Bool, true, false, cond, ltb, List, length, sym, refl, ap, ◌∙◌, subst, ap₂, ⊎_elim, le_refl, le_of_suc-le-suc, eq-or-lt_of_le, add-one, arith, ltb-false, ltb-true}
 use Rattle.fraction.specs.Fraction.{Fraction, ◌≼◌, ◌≺◌, over}
 use Rattle.fraction.proofs.Order.{over_≺, over_≽}
-use Rattle.critical.specs.Reports.{Reports}
+use Rattle.critical.specs.Reports.{Reports, list_of}
 use Rattle.critical.proofs.Lines.{span, span_one, span_more, span_pos, sum_bound}
 use Rattle.critical.proofs.Best.{Best, ◌≻◌, ◌≽◌, up, down, best_keep, best_take}
 use Rattle.critical.proofs.Search.{Stretch, Scan, floor, floor_in, floor_end, stretch_from, high, low, scan_first, scan_more, finds_rise, finds_fall, finds_whole}
+use Rattle.rules.specs.Leaves.{Fair}
 use Rattle.planner.specs.Inside.{reports_in, mark, Joins, FloorIs, MarkIs, KeptIn, KeptIs, Weighed, EndIs}
 use Rattle.planner.specs.declared.search.Mark.{Mark}
 use Rattle.planner.specs.declared.search.Kept.{Kept}
@@ -24,26 +25,7 @@ takes m e f = rw e f
 abbrev pace_of : Mark → Fraction
 pace_of m = over m.pace.ticks m.pace.operations
 
-module _ (block : Search) where
-  abbrev ℓ : Reports
-  ℓ = reports_in block.fair.list
-
-  abbrev xs : List ℕ
-  xs = block.fair.list.arrivals.now
-
-  abbrev ys : List ℕ
-  ys = block.fair.list.deadlines.now
-
-  abbrev s : ℕ
-  s = block.from
-
-  abbrev p : ℕ
-  p = block.first
-
-  -- the block's first report works
-  some : 0 < ℓ.operations p
-  some = block.fair.fair.some p block.on
-
+module _ (ℓ : Reports) (s p : ℕ) (some : 0 < ℓ.operations p) where
   mark_pace : (time : ℕ → ℕ) (m : Mark) → MarkIs ℓ s p time m → pace_of m ≡ over (time m.at - s) (span ℓ.operations p m.at)
   mark_pace time m i = ap₂ over i.ticks_are i.operations_are
 
@@ -178,33 +160,41 @@ module _ (block : Search) where
         KeptIs ℓ s p (record { next = kept.next + 1; sum = hj.pace.operations; high = h'; low = l' })
     goes_on_with h' l' x y f g = rw (f, g) (goes_on x y)
 
-  -- ---- the stretch, seen from the lists
+-- ---- the stretch, seen from the lists
+module _ (xs ys ws : List ℕ) (fair : Fair xs ys ws) where
+  abbrev ℓ : Reports
+  ℓ = list_of xs ys ws
+
   -- the operations of a run are few enough for 32 bits
-  span_small : (j : ℕ) → j < length xs → span ℓ.operations p j ≤ 65535 * suc j
-  span_small j h = omega (arith, sum_bound ℓ.operations 65535 (suc j) (λ i k. block.fair.fair.work i (omega arith)))
+  pub span_small : (p j : ℕ) → j < length xs → span ℓ.operations p j ≤ 65535 * suc j
+  span_small p j h = omega (arith, sum_bound ℓ.operations 65535 (suc j) (λ i k. fair.work i (omega arith)))
+
+  -- a stretch's first report works
+  pub works_at : (p k : ℕ) → Stretch ℓ p k → 0 < ℓ.operations p
+  works_at p k st = fair.some p (omega (arith, st.from, st.on_list))
 
   -- inside a stretch two reports join, at its end they do not
-  joins_inside : (k j : ℕ) → Stretch ℓ p k → p ≤ j → j < k → Joins xs ys j
-  joins_inside k j st h l = record { on = omega (arith, st.on_list); meets = st.joined j h l }
+  joins_inside : (p k j : ℕ) → Stretch ℓ p k → p ≤ j → j < k → Joins xs ys j
+  joins_inside p k j st h l = record { on = omega (arith, st.on_list); meets = st.joined j h l }
 
-  joins_not : (k : ℕ) → Stretch ℓ p k → Joins xs ys k → ⊥
-  joins_not k st m = omega (arith, st.closed m.on, m.meets)
+  joins_not : (p k : ℕ) → Stretch ℓ p k → Joins xs ys k → ⊥
+  joins_not p k st m = omega (arith, st.closed m.on, m.meets)
 
   -- the floor that the code finds is the stretch's
-  floor_is : (k j r : ℕ) → Stretch ℓ p k → p ≤ j → j ≤ k → FloorIs xs ys j r → r ≡ floor ℓ k j
-  floor_is k j r st h l f =
-      ⊎_elim (λ (e : j ≡ k). f.apart (λ m. joins_not k st (subst (Joins xs ys) e m)) ∙ sym (floor_end ℓ k j (omega arith)))
-      (λ m. f.joined (joins_inside k j st h m) ∙ sym (floor_in ℓ k j m)) (eq-or-lt_of_le l)
+  pub floor_is : (p k j r : ℕ) → Stretch ℓ p k → p ≤ j → j ≤ k → FloorIs xs ys j r → r ≡ floor ℓ k j
+  floor_is p k j r st h l f =
+      ⊎_elim (λ (e : j ≡ k). f.apart (λ m. joins_not p k st (subst (Joins xs ys) e m)) ∙ sym (floor_end ℓ k j (omega arith)))
+      (λ m. f.joined (joins_inside p k j st h m) ∙ sym (floor_in ℓ k j m)) (eq-or-lt_of_le l)
 
-  module _ (kept : Kept) where
+  module _ (s p : ℕ) (kept : Kept) where
     -- the reports taken so far, seen from the last of them
     last_taken : (k : ℕ) → KeptIn ℓ s p k kept → suc (kept.next - 1) ≡ kept.next
     last_taken k ki = omega (arith, ki.scan.least.before)
 
     -- where the last report taken joins the next, the next is still of the stretch
-    still : (k : ℕ) → KeptIn ℓ s p k kept → Joins xs ys (kept.next - 1) → kept.next ≤ k
+    pub still : (k : ℕ) → KeptIn ℓ s p k kept → Joins xs ys (kept.next - 1) → kept.next ≤ k
     still k ki m =
-        ⊎_elim (λ (e : kept.next ≡ suc k). absurd (joins_not k ki.stretch (subst (Joins xs ys) (omega (arith, e)) m))) (λ l. le_of_suc-le-suc l)
+        ⊎_elim (λ (e : kept.next ≡ suc k). absurd (joins_not p k ki.stretch (subst (Joins xs ys) (omega (arith, e)) m))) (λ l. le_of_suc-le-suc l)
         (eq-or-lt_of_le ki.upto)
 
     -- and where it does not, the stretch ends
@@ -212,7 +202,7 @@ module _ (block : Search) where
     ends_whole ks apart =
         let k : ℕ = ks.k in
         let ki : KeptIn ℓ s p k kept = ks.kept_in in
-        let all : kept.next ≡ suc k = ⊎_elim (λ (e : kept.next ≡ suc k). e) (λ l. absurd (apart (joins_inside k (kept.next - 1) ki.stretch (omega (arith, ki.scan.least.from, ki.scan.least.before)) (omega (arith, l, ki.scan.least.before))))) (eq-or-lt_of_le ki.upto) in
+        let all : kept.next ≡ suc k = ⊎_elim (λ (e : kept.next ≡ suc k). e) (λ l. absurd (apart (joins_inside p k (kept.next - 1) ki.stretch (omega (arith, ki.scan.least.from, ki.scan.least.before)) (omega (arith, l, ki.scan.least.before))))) (eq-or-lt_of_le ki.upto) in
         let last : kept.next - 1 ≡ k = omega (arith, all) in
         record {
           k = k;
@@ -220,7 +210,7 @@ module _ (block : Search) where
           on = omega (arith, last);
           from = omega (arith, last, ki.stretch.from);
           operations_are = ki.sum_is;
-          found = λ f rd. rw last (finds_whole ℓ f s p k ki.stretch some rd kept.next kept.high.at kept.low.at ki.scan all);
+          found = λ f rd. rw last (finds_whole ℓ f s p k ki.stretch (works_at p k ki.stretch) rd kept.next kept.high.at kept.low.at ki.scan all);
         }
 
     -- with the next report the operations still fit
@@ -229,7 +219,7 @@ module _ (block : Search) where
         let ki : KeptIn ℓ s p ks.k kept = ks.kept_in in
         let on : kept.next ≤ ks.k = still ks.k ki m in
         let in_list : kept.next < length xs = omega (arith, on, ki.stretch.on_list) in
-        omega (arith, ki.sum_is, span_small (kept.next - 1) (omega arith), last_taken ks.k ki, block.fair.fair.work kept.next in_list, block.fair.fair.few, in_list)
+        omega (arith, ki.sum_is, span_small p (kept.next - 1) (omega arith), last_taken ks.k ki, fair.work kept.next in_list, fair.few, in_list)
 
     -- the marks of the next report
     pub weighed :
@@ -251,7 +241,7 @@ module _ (block : Search) where
           high_at = refl;
           low_at = refl;
           high_is = record { ticks_are = refl; operations_are = total };
-          low_is = record { ticks_are = ap (λ (x : ℕ). x - s) (floor_is k kept.next fl ki.stretch from on f); operations_are = total };
+          low_is = record { ticks_are = ap (λ (x : ℕ). x - s) (floor_is p k kept.next fl ki.stretch from on f); operations_are = total };
         })
       where
         joined_sum : (k : ℕ) → KeptIn ℓ s p k kept → span ℓ.operations p (kept.next - 1) + ℓ.operations kept.next ≡ span ℓ.operations p kept.next
@@ -261,12 +251,12 @@ module _ (block : Search) where
 
   -- the search begins
   pub begins_kept :
-      (hj lj : Mark) (fl sum : ℕ) → sum ≡ ℓ.operations p → FloorIs xs ys p fl →
+      (s p : ℕ) (hj lj : Mark) (fl sum : ℕ) → p < length xs → sum ≡ ℓ.operations p → FloorIs xs ys p fl →
       hj ≡ mark p (ℓ.deadline p) s sum →
       lj ≡ mark p fl s sum →
       KeptIs ℓ s p (record { next = p + 1; sum = sum; high = hj; low = lj })
-  begins_kept hj lj fl sum e f h l =
-      let st = stretch_from ℓ p block.on in
+  begins_kept s p hj lj fl sum on e f h l =
+      let st = stretch_from ℓ p on in
       let k : ℕ = st.0 in
       let total : sum ≡ span ℓ.operations p p = e ∙ sym (span_one ℓ.operations p) in
       rw (add-one p, h, l) (record {
@@ -275,7 +265,7 @@ module _ (block : Search) where
           stretch = st.1;
           scan = scan_first ℓ s p k st.1;
           high_is = record { ticks_are = refl; operations_are = total };
-          low_is = record { ticks_are = ap (λ (x : ℕ). x - s) (floor_is k p fl st.1 (le_refl p) st.1.from f); operations_are = total };
+          low_is = record { ticks_are = ap (λ (x : ℕ). x - s) (floor_is p k p fl st.1 (le_refl p) st.1.from f); operations_are = total };
           sum_is = total ∙ ap (span ℓ.operations p) before_next;
           upto = omega (arith, st.1.from);
         };
@@ -283,3 +273,8 @@ module _ (block : Search) where
     where
       before_next : p ≡ suc p - 1
       before_next = omega arith
+
+-- ---- a block that is searched for
+-- its first report works
+pub some : (block : Search) → 0 < (reports_in block.fair.list).operations block.first
+some block = block.fair.fair.some block.first block.on

@@ -17,7 +17,7 @@ through ℓ P Q zero = 0
 through ℓ P Q (suc i) = ends (arrivals ℓ Q) ℓ.operations (λ _. P) i
 
 module _ (ℓ : Reports) (P Q : ℕ) (posP : 1 ≤ P) (posQ : 1 ≤ Q) where
-  through_more : (i : ℕ) → max (Q * ℓ.arrival i) (through ℓ P Q i) + ℓ.operations i * P ≡ through ℓ P Q (i + 1)
+  pub through_more : (i : ℕ) → max (Q * ℓ.arrival i) (through ℓ P Q i) + ℓ.operations i * P ≡ through ℓ P Q (i + 1)
   unfolding through starts
   through_more i = rw (add-one i) (next i)
     where
@@ -26,10 +26,10 @@ module _ (ℓ : Reports) (P Q : ℕ) (posP : 1 ≤ P) (posQ : 1 ≤ Q) where
       next (suc i) = refl
 
   -- one report more, from what the code computes
-  through_step : (i done r : ℕ) → done ≡ through ℓ P Q i → r ≡ max (Q * ℓ.arrival i) done + ℓ.operations i * P → r ≡ through ℓ P Q (i + 1)
+  pub through_step : (i done r : ℕ) → done ≡ through ℓ P Q i → r ≡ max (Q * ℓ.arrival i) done + ℓ.operations i * P → r ≡ through ℓ P Q (i + 1)
   through_step i done r e f = f ∙ ap (λ (d : ℕ). max (Q * ℓ.arrival i) d + ℓ.operations i * P) e ∙ through_more i
 
-  at_through : (i : ℕ) → At Q (finish ℓ (steady (over P Q)) i) (through ℓ P Q (i + 1))
+  pub at_through : (i : ℕ) → At Q (finish ℓ (steady (over P Q)) i) (through ℓ P Q (i + 1))
   unfolding through
   at_through i = rw (add-one i) (at_finish ℓ posQ (λ j h. at_over Q P Q P posQ refl) i (lt-suc_self i))
 
@@ -37,19 +37,23 @@ module _ (ℓ : Reports) (P Q : ℕ) (posP : 1 ≤ P) (posQ : 1 ≤ Q) where
   unfolding over
   positive = posP
 
-  stops_at : (i : ℕ) → i < ℓ.count → TimelyTo ℓ (over P Q) i → Q * ℓ.deadline i < through ℓ P Q (i + 1) → FirstWithout ℓ (over P Q) i
+  pub stops_at : (i : ℕ) → i < ℓ.count → TimelyTo ℓ (over P Q) i → Q * ℓ.deadline i < through ℓ P Q (i + 1) → FirstWithout ℓ (over P Q) i
   stops_at i h k l = stops_first ℓ (over P Q) positive i h k (at_lt (at_whole Q (ℓ.deadline i)) (at_through i) l)
 
-  timely_on : (i : ℕ) → TimelyTo ℓ (over P Q) i → through ℓ P Q (i + 1) ≤ Q * ℓ.deadline i → TimelyTo ℓ (over P Q) (i + 1)
+  pub timely_on : (i : ℕ) → TimelyTo ℓ (over P Q) i → through ℓ P Q (i + 1) ≤ Q * ℓ.deadline i → TimelyTo ℓ (over P Q) (i + 1)
   timely_on i k l = rw (add-one i) (timely_more ℓ (over P Q) i k (at_le (at_through i) (at_whole Q (ℓ.deadline i)) posQ l))
 
-  passes : TimelyTo ℓ (over P Q) ℓ.count → Plannable ℓ (over P Q)
+  pub passes : TimelyTo ℓ (over P Q) ℓ.count → Plannable ℓ (over P Q)
   passes k = timely_plan ℓ (over P Q) positive ℓ.count k
+
+pub through_zero : (ℓ : Reports) (P Q : ℕ) → ◌≡◌ {A = ℕ} 0 (through ℓ P Q 0)
+unfolding through
+through_zero ℓ P Q = refl
 
 -- ---- the pass over a list
 -- how large it gets
-bound : (a w p q d i : ℕ) → a ≤ 2147483647 → q ≤ 65535 → w ≤ 65535 → p ≤ 65535 → d ≤ 140735340806145 + i * 4294836225 → max (q * a) d + w * p ≤ 140735340806145 + (i + 1) * 4294836225
-bound a w p q d i ha hq hw hp hd = omega (arith, mul-le-mul hq ha, mul-le-mul hw hp)
+pub through_bound : (a w p q d i : ℕ) → a ≤ 2147483647 → q ≤ 65535 → w ≤ 65535 → p ≤ 65535 → d ≤ 140735340806145 + i * 4294836225 → max (q * a) d + w * p ≤ 140735340806145 + (i + 1) * 4294836225
+through_bound a w p q d i ha hq hw hp hd = omega (arith, mul-le-mul hq ha, mul-le-mul hw hp)
 
 -- before report i: done is Q times the finish of the report before at the fastest pace, it is small, and the pass holds at every report passed
 pub record Passing (fair : FairList) (i done : ℕ) : Type 0 where
@@ -68,8 +72,7 @@ module _ (fair : FairList) where
   Q = fair.list.terms.q
 
   pub pass_begins : Passing fair 0 0
-  unfolding through
-  pass_begins = record { finished = refl; small = omega arith; timely = λ i h. absurd (not-suc-le-zero h) }
+  pass_begins = record { finished = through_zero ℓ P Q; small = omega arith; timely = λ i h. absurd (not-suc-le-zero h) }
 
   -- one report more, from what the code computes: its finish and when it is due
   module _ {i done finish due : ℕ} {report : Report} (so_far : Passing fair i done) (is : report ≡ report_in fair.list i) (finish_is : finish ≡ max (Q * report.arrival) done + report.operations * P) (due_is : due ≡ Q * report.deadline) where
@@ -88,7 +91,7 @@ module _ (fair : FairList) where
     pub pass_goes_on : i < ℓ.count → finish ≤ due → Passing fair (i + 1) finish
     pass_goes_on h l = record {
       finished = next;
-      small = omega (arith, computed, bound (ℓ.arrival i) (ℓ.operations i) P Q done i (fair.fair.arrive i h) fair.paced.q_most (fair.fair.work i h) fair.paced.p_most so_far.small);
+      small = omega (arith, computed, through_bound (ℓ.arrival i) (ℓ.operations i) P Q done i (fair.fair.arrive i h) fair.paced.q_most (fair.fair.work i h) fair.paced.p_most so_far.small);
       timely = timely_on ℓ P Q fair.paced.p_some fair.paced.q_some i so_far.timely (omega (arith, next, late, l));
     }
 
