@@ -1,17 +1,19 @@
 -- Rules of a tool's own, whose refusals are of its own type and may have any number: what `or_if` gives of them, one behind the other, and behind rules that give a Refusal.
 -- Assumes nothing.
 use Prim.Native.Nat.{ℕ, ◌<◌}
-use mathlib.Core.Path.{◌≡◌, refl, sym, ◌∙◌, subst}
+use mathlib.Core.Path.{◌≡◌, refl, sym, ◌∙◌, ap, subst}
 use mathlib.Core.Bool.{Bool, true, false}
 use mathlib.Core.List.{List, [], ◌∷◌, ◌++◌}
 use mathlib.Core.Logic.{inl}
 use Rattle.std.specs.Prelude.{Result, Ok, Err}
+use Rattle.std.specs.Result.{result_and}
 use Rattle.answers.specs.Numbers.{number}
 use Rattle.answers.specs.declared.Refusal.{Refusal}
 use Rattle.answers.proofs.Replies.{numbered}
 use Rattle.trials.specs.Rules.{Rule, rule, Overall, Least, Silent, Refused, Accepted}
 use Rattle.trials.specs.Tries.{Tells, Verdict, or_if, OrIf, AfterIs, After, AfterOwnIs, AfterOwn}
 use Rattle.trials.proofs.Passing.{both}
+use Rattle.trials.proofs.Single.{Soles, one_refusal, not_refused}
 use Rattle.trials.proofs.Trying.{refused_first, refused_later}
 
 -- The promise of `or_if` allows one verdict.
@@ -61,6 +63,29 @@ module _ {R : Type 0} (k p : R → ℕ) where
   -- a rule of a report, by the least that is at fault
   pub own_least : {n m : ℕ} {F : ℕ → Type 0} {qs : List Rule} {v w r : Result (Unit {0}) R} {b : Bool} {a : R} → OrIf v b a w → (b ≡ true → Least m F (p a)) → (b ≡ false → (i : ℕ) → i < m → F i → ⊥) → k a ≡ n → 0 < k a → AfterOwn k p w qs r → AfterOwn k p v (rule n (Least m F) ∷ qs) r
   own_least {n} {m} {F} o found none e some rest = own_cons (rule n (Least m F)) o e some found (λ y place g. none y place g.on_list g.at_fault) rest
+
+  -- rules behind a verdict so far, put there by std's `and`: a refusal stays, and behind a silence the rules are tried
+  own_behind_is : (qs : List Rule) (w r : Result (Unit {0}) R) → AfterOwnIs k p (Ok tt) qs r → AfterOwnIs k p w qs (result_and w r)
+  unfolding AfterOwnIs
+  own_behind_is qs (Err a) r x = refl
+  own_behind_is qs (Ok _) r x = x
+
+  pub own_behind : {qs : List Rule} {w r s : Result (Unit {0}) R} → s ≡ result_and w r → AfterOwn k p (Ok tt) qs r → AfterOwn k p w qs s
+  own_behind {qs} {w} {r} {s} e x = subst (λ (z : Result (Unit {0}) R). AfterOwn k p w qs z) (sym e) (record { is = own_behind_is qs w r x.is })
+
+  -- a group of such rules allows one verdict, where a refusal is told by its number and its place
+  module _ (apart : (a b : R) → k a ≡ k b → p a ≡ p b → a ≡ b) where
+    one_own_is : (rules : List Rule) (v r s : Result (Unit {0}) R) → Soles rules → AfterOwnIs k p v rules r → AfterOwnIs k p v rules s → r ≡ s
+    unfolding AfterOwnIs
+    one_own_is rules (Err a) r s single x y = x ∙ sym y
+    one_own_is rules (Ok _) (Ok _) (Ok _) single x y = refl
+    one_own_is rules (Ok _) (Ok _) (Err b) single x y = absurd (not_refused rules x (k b) (p b) y.0)
+    one_own_is rules (Ok _) (Err a) (Ok _) single x y = absurd (not_refused rules y (k a) (p a) x.0)
+    one_own_is rules (Ok _) (Err a) (Err b) single x y =
+        let e = one_refusal rules single.single (k a) (p a) (k b) (p b) x.0 y.0 in ap Err (apart a b e.0 e.1)
+
+    pub one_own : {rules : List Rule} (v r s : Result (Unit {0}) R) → Soles rules → AfterOwn k p v rules r → AfterOwn k p v rules s → r ≡ s
+    one_own {rules} v r s single x y = one_own_is rules v r s single x.is y.is
 
   -- rules that give a Refusal come before them, each refusal told in the tool's own type
   abbrev pub told : (Refusal → R) → Verdict → Result (Unit {0}) R
